@@ -1,0 +1,3 @@
+// Keys that have an order, and records of a key and its value.
+pub mod keys;
+pub mod record;
