@@ -1,0 +1,4 @@
+pub mod Ranks
+pub mod Puts
+pub mod Maps
+pub mod Laters

@@ -68,3 +68,8 @@ next c k rows = first (later c k rows)
 abbrev pub total : {K V : Type 0} → (K → V → ℕ) → List (Record K V) → ℕ
 total w [] = zero
 total w (r ∷ rs) = w (r .key) (r .value) + total w rs
+
+-- what a key adds to a sum, where it may have no value
+abbrev pub weigh : {K V : Type 0} → (K → V → ℕ) → K → Option V → ℕ
+weigh w k None = zero
+weigh w k (Some v) = w k v

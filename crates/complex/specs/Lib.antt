@@ -1,0 +1,3 @@
+pub mod Simplex
+pub mod Mask
+pub mod Model

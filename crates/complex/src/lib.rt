@@ -1,0 +1,1 @@
+// The mathematics of models: each function stands for the theorem that its contract names.

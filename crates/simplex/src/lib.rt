@@ -1,0 +1,3 @@
+// Simplexes: one to four vertices in strictly rising order.
+pub mod shape;
+pub mod simplex;
