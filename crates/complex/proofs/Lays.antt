@@ -7,18 +7,23 @@ use Prim.Native.Nat.{ℕ, zero, suc, _+_, _≤_, _<_}
 use native.Mathlib.Omega.{arith}
 use lib.Dec.{eqb}
 use lib.ListN.{length}
+use Rattle.std.specs.Options.{valueOr}
 use Rattle.std.specs.Iters.{folded}
-use Rattle.std.specs.Orderings.{isEq}
+use Rattle.std.specs.Orderings.{isEq, reversed}
 use Rattle.std.specs.declared.cmp.Ordering.{Ordering}
 use Rattle.std.specs.declared.cmp.Ordering.the-variants.{Less, Equal, Greater}
+use Rattle.std.specs.declared.option.Option.{Option}
+use Rattle.std.specs.declared.option.Option.the-variants.{Some, None}
 use Rattle.std.proofs.shelf.Sums.{sumBy-cons}
-use Rattle.std.proofs.shelf.Tests.{cases-bool, and-parts, and-from, eqb-true, eqb-false, eq-eqb, ne-eqb, cond-true, cond-false, true≢false}
-use Rattle.order.specs.Assoc.{by}
+use Rattle.std.proofs.shelf.Tests.{eqb-true, ne-eqb, cond-false, or-parts, true≢false}
+use Rattle.order.specs.Assoc.{by, lookup, weigh}
+use Rattle.order.proofs.Maps.{lookup-put, total-put, length-is-total}
 use Rattle.complex.specs.Mask.{bit}
 use Rattle.complex.specs.Model.{Model, mask, write, Sorted, In, Legal, lay-one, lay, Laid, absent}
 use Rattle.complex.specs.Simplex.{colex, Rising, Face, faces, among}
-use Rattle.complex.proofs.Faces.{same-simplex, face-of-face, listed-is-face, face-is-listed}
-use Rattle.complex.proofs.Masks.{bit-of-none, bit-holds, bit-of-part}
+use Rattle.complex.proofs.Faces.{Distinct, same-simplex, face-of-face, listed-is-face, face-is-listed}
+use Rattle.complex.proofs.Masks.{bit-holds, bit-of-part}
+use Rattle.complex.proofs.Order.{colex-lawful, colex-exact}
 use Rattle.complex.proofs.Writes.{mask-write, write-keeps-order, write-adds-one-at-most}
 
 pub lay-one-keeps-order : (M : Model) (f : List ℕ) → Sorted M → Sorted (lay-one M f)
@@ -103,13 +108,10 @@ lay-keeps-legal M N s told legal laid = record { body = λ q h. body q h (told q
     closed p q t i g (inl f) = fresh p q t (sym (ap (bit p) (laid .face q f)) ∙ i) f g (eqb (mask M q) 0) refl
     closed p q t i g (inr n) = stays p t (legal .closed p q t (sym (ap (bit p) (laid .other q n)) ∙ i) g) (told t)
 
--- laying adds at most one simplex for each that is absent
-pub lays-add-at-most : (fs : List (List ℕ)) (M : Model) → Sorted M → length (folded lay-one M fs) ≤ length M + absent M fs
-lays-add-at-most [] M u = omega arith
-lays-add-at-most (f ∷ fs) M u =
-    let N = lay-one M f in
-    let more = lays-add-at-most fs N (lay-one-keeps-order M f u) in
-    let fewer = absent-falls fs N refl in
+-- laying one simplex takes the room of one that was absent
+pub lay-one-room : (M : Model) (f : List ℕ) (fs : List (List ℕ)) → Sorted M → length (lay-one M f) + absent (lay-one M f) fs ≤ length M + absent M (f ∷ fs)
+lay-one-room M f fs u =
+    let fewer = absent-falls fs in
     let here = one (eqb (mask M f) 0) in
     let sum = sumBy-cons (λ g. cond (eqb (mask M g) 0) 1 0) f fs in
     omega arith
@@ -130,11 +132,67 @@ lays-add-at-most (f ∷ fs) M u =
     fall true false h = absurd (true≢false (h refl))
     fall false b h = omega arith
 
-    absent-falls : (gs : List (List ℕ)) (N : Model) → N ≡ lay-one M f → absent N gs ≤ absent M gs
-    absent-falls [] N e = omega arith
-    absent-falls (g ∷ gs) N e =
-        let more = absent-falls gs N e in
-        let a = sumBy-cons (λ g. cond (eqb (mask N g) 0) 1 0) g gs in
+    absent-falls : (gs : List (List ℕ)) → absent (lay-one M f) gs ≤ absent M gs
+    absent-falls [] = omega arith
+    absent-falls (g ∷ gs) =
+        let more = absent-falls gs in
+        let a = sumBy-cons (λ g. cond (eqb (mask (lay-one M f) g) 0) 1 0) g gs in
         let b = sumBy-cons (λ g. cond (eqb (mask M g) 0) 1 0) g gs in
-        let c = fall (eqb (mask N g) 0) (eqb (mask M g) 0) (λ h. ap (λ K. eqb (mask K g) 0) e ∙ kept g h) in
+        let c = fall (eqb (mask (lay-one M f) g) 0) (eqb (mask M g) 0) (kept g) in
         omega arith
+
+-- no record has the mask 0
+abbrev pub Positive : Model → Type 0
+Positive M = (q : List ℕ) → lookup colex q M ≡ Some 0 → ⊥
+
+absent-none : (o : Option ℕ) → (o ≡ Some 0 → ⊥) → valueOr o 0 ≡ 0 → o ≡ None
+absent-none None n e = refl
+absent-none (Some m) n e = absurd (n (ap Some e))
+
+write-one-positive : (M : Model) (f : List ℕ) → Sorted M → Positive M → Positive (write M f 1)
+write-one-positive M f u pos q h = go (colex q f) (sym (lookup-put colex colex-lawful colex-exact M f q (Some 1) u) ∙ h)
+  where
+    go : (o : Ordering) → by o (lookup colex q M) (Some 1) (lookup colex q M) ≡ Some 0 → ⊥
+    go Less e = pos q e
+    go Equal e = let z : _≡_ {A = ℕ} 0 1 = cc in omega arith
+    go Greater e = pos q e
+
+-- laying distinct simplexes adds exactly those that are absent
+pub lays-add-the-absent : (fs : List (List ℕ)) (M : Model) → Sorted M → Positive M → Distinct fs → length (folded lay-one M fs) ≡ length M + absent M fs
+lays-add-the-absent [] M u pos d = omega arith
+lays-add-the-absent (f ∷ fs) M u pos d =
+    let more = lays-add-the-absent fs (lay-one M f) (lay-one-keeps-order M f u) (stays (eqb (mask M f) 0)) (d .1) in
+    let here = one (eqb (mask M f) 0) refl in
+    let same = unchanged fs (d .0) in
+    let sum = sumBy-cons (λ g. cond (eqb (mask M g) 0) 1 0) f fs in
+    omega arith
+  where
+    stays : (b : Bool) → Positive (cond b (write M f 1) M)
+    stays true = write-one-positive M f u pos
+    stays false = pos
+
+    one : (b : Bool) → eqb (mask M f) 0 ≡ b → length (cond b (write M f 1) M) ≡ length M + cond b 1 0
+    one true e =
+        let gone : lookup colex f M ≡ None = absent-none (lookup colex f M) (pos f) (eqb-true (mask M f) 0 e) in
+        let sum = total-put colex colex-lawful colex-exact (λ _ _. 1) M f (Some 1) u in
+        let weight : weigh (λ _ _. 1) f (lookup colex f M) ≡ 0 = ap (weigh (λ _ _. 1) f) gone in
+        omega (arith, sum, weight, length-is-total M, length-is-total (write M f 1))
+    one false e = omega arith
+
+    unchanged : (gs : List (List ℕ)) → among f gs ≡ false → absent (lay-one M f) gs ≡ absent M gs
+    unchanged [] n = refl
+    unchanged (g ∷ gs) n =
+        let more = unchanged gs (or-parts _ _ n .1) in
+        let a = sumBy-cons (λ g. cond (eqb (mask (lay-one M f) g) 0) 1 0) g gs in
+        let b = sumBy-cons (λ g. cond (eqb (mask M g) 0) 1 0) g gs in
+        let c : mask (lay-one M f) g ≡ mask M g = lay-one-mask M f g u ∙ ap (λ t. cond (t && eqb (mask M f) 0) 1 (mask M g)) (apart g (or-parts _ _ n .0)) in
+        let e : _≡_ {A = ℕ} (cond (eqb (mask (lay-one M f) g) 0) 1 0) (cond (eqb (mask M g) 0) 1 0) = ap (λ m. cond (eqb m 0) 1 0) c in
+        omega arith
+      where
+        turned : (a b : Ordering) → a ≡ reversed b → isEq a ≡ false → isEq b ≡ false
+        turned a Less h e = refl
+        turned a Equal h e = cc
+        turned a Greater h e = refl
+
+        apart : (g : List ℕ) → isEq (colex f g) ≡ false → isEq (colex g f) ≡ false
+        apart g e = turned (colex f g) (colex g f) (colex-lawful .flip f g) e

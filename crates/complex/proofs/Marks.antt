@@ -4,19 +4,25 @@ use mathlib.Core.Bool.{Bool, true, false, _||_, cond}
 use mathlib.Core.List.{List, [], _∷_}
 use mathlib.Core.Logic.{_⊎_, inl, inr}
 use Prim.Native.Nat.{ℕ, _<_, _^_}
-use lib.Bits.{bitOr}
+use native.Mathlib.Omega.{arith}
+use lib.Bits.{bitOr, or-add-and, and-le-r}
 use lib.ListN.{length}
 use Rattle.std.specs.Iters.{folded}
 use Rattle.std.specs.Orderings.{isEq}
 use Rattle.std.specs.declared.cmp.Ordering.{Ordering}
 use Rattle.std.specs.declared.cmp.Ordering.the-variants.{Less, Equal, Greater}
-use Rattle.std.proofs.shelf.Tests.{or-cases, or-left, or-right, or-parts}
-use Rattle.order.specs.Assoc.{by}
+use Rattle.std.specs.Options.{valueOr}
+use Rattle.std.specs.declared.option.Option.{Option}
+use Rattle.std.specs.declared.option.Option.the-variants.{Some, None}
+use Rattle.std.proofs.shelf.Tests.{ne-eqb, or-cases, or-left, or-right}
+use Rattle.order.specs.Assoc.{by, lookup, weigh}
+use Rattle.order.proofs.Maps.{total-put, length-is-total}
 use Rattle.complex.specs.Mask.{bit}
-use Rattle.complex.specs.Model.{Model, mask, Sorted, In, Legal, mark-one, mark, Marked}
+use Rattle.complex.specs.Model.{Model, mask, present, Sorted, In, Legal, mark-one, mark, Marked}
 use Rattle.complex.specs.Simplex.{colex, Rising, Face, faces, among}
-use Rattle.complex.proofs.Faces.{Distinct, same-simplex, face-of-face, listed-is-face, face-is-listed, faces-distinct}
+use Rattle.complex.proofs.Faces.{Distinct, same-simplex, same-as-itself, face-of-face, listed-is-face, face-is-listed, faces-distinct}
 use Rattle.complex.proofs.Masks.{bit-of-or}
+use Rattle.complex.proofs.Order.{colex-lawful, colex-exact}
 use Rattle.complex.proofs.Writes.{mask-write, write-keeps-order}
 
 module _ (p : ℕ) where
@@ -34,6 +40,14 @@ module _ (p : ℕ) where
       go Less e = refl
       go Equal e = ap (λ s. bitOr (mask M s) (2 ^ p)) (sym (same-simplex q f (ap isEq e)))
       go Greater e = refl
+
+  -- what is held stays held
+  pub mark-one-holds : (M : Model) (f q : List ℕ) → Sorted M → 0 < mask M q → 0 < mask (mark-one p M f) q
+  mark-one-holds M f q u h = rw (mark-one-mask M f q u) (go (isEq (colex q f)))
+    where
+      go : (b : Bool) → 0 < cond b (bitOr (mask M q) (2 ^ p)) (mask M q)
+      go true = omega (arith, or-add-and (mask M q) (2 ^ p), and-le-r (mask M q) (2 ^ p))
+      go false = h
 
   -- the simplexes of the list get bit p, and every other is as before
   pub marks-masks : (fs : List (List ℕ)) (M : Model) (q : List ℕ) → Sorted M → Distinct fs → mask (folded (mark-one p) M fs) q ≡ cond (among q fs) (bitOr (mask M q) (2 ^ p)) (mask M q)
@@ -80,3 +94,23 @@ module _ (p : ℕ) where
       closed : (r : ℕ) (q t : List ℕ) → In r N q → Face t q → Face q s ⊎ (Face q s → ⊥) → In r N t
       closed r q t i g (inl f) = fresh r q t f g (or-cases _ _ (sym (bit-of-or r (mask M q) (2 ^ p)) ∙ sym (ap (bit r) (marked .face q f)) ∙ i))
       closed r q t i g (inr n) = stays r t (legal .closed r q t (sym (ap (bit r) (marked .other q n)) ∙ i) g) (told t)
+
+  held-there : (o : Option ℕ) → 0 < valueOr o 0 → (s : List ℕ) → weigh (λ _ _. 1) s o ≡ 1
+  held-there None h s = absurd (omega arith)
+  held-there (Some m) h s = refl
+
+  or-weighs : (m : ℕ) → 0 < m → (s : List ℕ) → weigh (λ _ _. 1) s (present m) ≡ 1
+  or-weighs m h s = ap (λ b. weigh (λ _ _. 1) s (cond b None (Some m))) (ne-eqb m 0 (omega arith))
+
+  -- marking a held simplex adds none
+  pub mark-one-adds-none : (M : Model) (f : List ℕ) → Sorted M → 0 < mask M f → length (mark-one p M f) ≡ length M
+  mark-one-adds-none M f u h =
+      let m = bitOr (mask M f) (2 ^ p) in
+      let l : 0 < m = omega (arith, or-add-and (mask M f) (2 ^ p), and-le-r (mask M f) (2 ^ p)) in
+      omega (arith, total-put colex colex-lawful colex-exact (λ _ _. 1) M f (present m) u, held-there (lookup colex f M) h f, or-weighs m l f, length-is-total M, length-is-total (mark-one p M f))
+
+  pub marks-add-none : (fs : List (List ℕ)) (M : Model) → Sorted M → ((q : List ℕ) → among q fs ≡ true → 0 < mask M q) → length (folded (mark-one p) M fs) ≡ length M
+  marks-add-none [] M u h = refl
+  marks-add-none (f ∷ fs) M u h =
+      marks-add-none fs (mark-one p M f) (mark-one-keeps-order M f u) (λ q i. mark-one-holds M f q u (h q (or-right _ _ i)))
+      ∙ mark-one-adds-none M f u (h f (or-left _ _ (same-as-itself f)))

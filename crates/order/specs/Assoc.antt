@@ -6,7 +6,7 @@
 --     next c k rows      the least key greater than k, if there is one
 use mathlib.Core.Path.{_≡_}
 use mathlib.Core.List.{List, [], _∷_}
-use mathlib.Core.Bool.{Bool, true, false, _&&_}
+use mathlib.Core.Bool.{Bool, true, _&&_}
 use Prim.Native.Nat.{ℕ, zero, _+_}
 use Rattle.std.specs.Orderings.{isLt, reversed}
 use Rattle.std.specs.declared.cmp.Ordering.{Ordering}

@@ -4,6 +4,7 @@ ghost use Prim.Native.Nat.{_^_};
 ghost use lib.Dec.{ltb};
 ghost use Rattle.std.specs.Options.{mapped};
 ghost use Rattle.std.specs.declared.option.Option.the-variants.{Some, None};
+ghost use Rattle.complex.specs.Mask.{bit};
 ghost use Rattle.model.specs.Calls.{parts};
 use crate::part::Part;
 
@@ -20,5 +21,12 @@ impl Part {
         ensures { λ r. ⌜ r ≡ 2 ^ (now (self .entry) .number) ⌝ }
     {
         1 << self.number
+    }
+
+    // Does the mask have this part's bit?
+    pub fn is_in(&self, mask: u8) -> bool
+        ensures { λ r. ⌜ r ≡ bit (now (self .entry) .number) mask ⌝ }
+    {
+        (mask >> self.number) % 2 == 1
     }
 }

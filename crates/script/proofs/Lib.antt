@@ -1,0 +1,6 @@
+-- Lemmas that several proofs share.
+pub mod Broken
+pub mod Cutting
+pub mod Numerals
+pub mod Numbers
+pub mod Replies
