@@ -13,7 +13,7 @@ use Rattle.std.specs.declared.option.Option.the-variants.{Some, None}
 use Rattle.std.specs.declared.result.Result.{Result}
 use Rattle.std.specs.declared.result.Result.the-variants.{Ok, Err}
 use Rattle.std.proofs.shelf.Sums.{sumBy-cons}
-use Rattle.std.proofs.shelf.Tests.{and-parts, and-from, cond-true, cond-false, eqb-true, eq-eqb, ne-eqb, le-leb, lt-ltb, not-from-true}
+use Rattle.std.proofs.shelf.Tests.{and-parts, and-from, cond-true, cond-false, eqb-true, eq-eqb, ne-eqb, le-leb, lt-ltb, ltb-true, not-from-true}
 use Rattle.complex.specs.Model.{Model, mask, write, Sorted, Legal, lay-one, lay, Laid, absent, mark-one, mark, Marked, unmarked}
 use Rattle.complex.specs.Simplex.{proper, below, rises, Rising, Face, faces}
 use Rattle.complex.proofs.Faces.{rises-rising, told, faces-distinct, face-of-itself, listed-is-face, face-below}
@@ -185,3 +185,11 @@ marks c d p s t r some few st old legal h value after =
     go : (t : List ℕ) → Rising t → (a : Result ℕ ModelRefusal) → mark-simplex c p t ≡ a → length (settled a c (holding c (mark p (c .model) t)) .model) ≡ length (c .model)
     go t u (Ok n) e = marks-add-none p (faces t) (c .model) (st .sorted) (λ q i. faces-held (c .model) t old (marked-held c p t n e) q (listed-is-face t q u i))
     go t u (Err x) e = refl
+
+-- a part that is known has its number, below 8
+pub known-part : (n p : ℕ) → Some n ≡ cond (ltb p parts) (Some p) None → (n ≡ p) × (p < 8)
+known-part n p h = go (ltb p parts) refl h
+  where
+    go : (b : Bool) → ltb p parts ≡ b → Some n ≡ cond b (Some p) None → (n ≡ p) × (p < 8)
+    go true e h = (cc, ltb-true p 8 e)
+    go false e h = (cc, let z : _≡_ {A = ℕ} 0 1 = cc in absurd (omega arith))

@@ -1,0 +1,4 @@
+pub mod Takings
+pub mod Pairs
+pub mod Written
+pub mod Readable

@@ -1,0 +1,5 @@
+pub mod Entry
+pub mod Outcome
+pub mod Reading
+pub mod Numbers
+pub mod Format
