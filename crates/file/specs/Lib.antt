@@ -3,3 +3,4 @@ pub mod Outcome
 pub mod Reading
 pub mod Numbers
 pub mod Format
+pub mod Load
