@@ -4,23 +4,31 @@ ghost use mathlib.Core.List.{_++_};
 ghost use Rattle.std.specs.Of.String.{string-bytes};
 ghost use Rattle.std.specs.Vec.{made};
 ghost use Rattle.std.specs.declared.option.Option.the-variants.{Some};
-ghost use Rattle.script.specs.Text.{textOf, lineOf};
+ghost use Rattle.script.specs.Text.{script-number, textOf, lineOf};
+use crate::refusal::ScriptRefusal;
+use file::refusal::FileRefusal;
 use std::alloc::AllocError;
 use std::fmt;
 
-// An answer: how many simplexes a load gave, an Euler number, a refusal by its number alone, or a refused load with the
-// section, the entry and the place at which it stopped.
+// An answer: how many simplexes a load gave, an Euler number, or a refusal.
 #[derive(Clone, Copy)]
 pub enum Answer {
     Loaded(usize),
     Euler(i32),
-    Refused(u8),
-    LoadRefused {
-        number: u8,
-        section: u8,
-        entry: u16,
-        place: usize,
-    },
+    Refused(ScriptRefusal),
+}
+
+impl ScriptRefusal {
+    // The number of the refusal.
+    pub fn number(&self) -> u8
+        ensures { λ r. ⌜ r ≡ script-number (now (self .entry)) ⌝ }
+    {
+        match self {
+            ScriptRefusal::Line => 8,
+            ScriptRefusal::Model(refusal) => refusal.number(),
+            ScriptRefusal::Load(refusal) => refusal.number(),
+        }
+    }
 }
 
 pub impl fmt::Display for Answer as AnswerDisplay {
@@ -30,13 +38,17 @@ pub impl fmt::Display for Answer as AnswerDisplay {
         match self {
             Answer::Loaded(held) => write!(f, "loaded {held}"),
             Answer::Euler(value) => write!(f, "ok {value}"),
-            Answer::Refused(number) => write!(f, "no {number}"),
-            Answer::LoadRefused {
-                number,
-                section,
-                entry,
-                place,
-            } => write!(f, "no {number} {section} {entry} {place}"),
+            Answer::Refused(ScriptRefusal::Load(FileRefusal::At(stopped))) => {
+                let number = stopped.cause.number();
+                let section = stopped.section;
+                let entry = stopped.entry;
+                let place = stopped.place;
+                write!(f, "no {number} {section} {entry} {place}")
+            }
+            Answer::Refused(refusal) => {
+                let number = refusal.number();
+                write!(f, "no {number}")
+            }
         }
     }
 }

@@ -4,38 +4,57 @@ ghost use mathlib.Core.List.{_++_};
 ghost use Rattle.std.specs.Of.String.{string-bytes};
 ghost use Rattle.std.specs.Vec.{made};
 ghost use Rattle.script.specs.Lines.{lines};
-ghost use Rattle.script.specs.Transcript.{answerOf, replies, transcriptOf};
+ghost use Rattle.script.specs.Transcript.{answerOf, replies, transcript-from};
 use crate::answers::Answer;
 use crate::answers::push_line;
+use crate::lines::Command;
+use crate::lines::command_of;
 use crate::lines::next_line;
+use crate::refusal::ScriptRefusal;
+use file::load::load;
+use model::holder::Holder;
+use model::stages::Draft;
+use model::stages::Working;
 use std::alloc::AllocError;
 use std::alloc::Global;
 
 // The answer to one line.
-fn answer_to(line: &[u8]) -> Answer
-    ensures { λ r. ⌜ r ≡ answerOf (now (line .entry)) ⌝ }
+fn answer_to<K: Holder>(working: &Working<K>, line: &[u8]) -> Answer
+    ensures { λ r. ⌜ r ≡ answerOf (K·Holder .contents (now (working .entry) .holder)) (now (line .entry)) ⌝ }
 {
-    Answer::Refused(8)
+    match command_of(line) {
+        Some(Command::Euler(part)) => match working.euler(part) {
+            Ok(value) => Answer::Euler(value),
+            Err(refusal) => Answer::Refused(ScriptRefusal::Model(refusal)),
+        },
+        None => Answer::Refused(ScriptRefusal::Line),
+    }
 }
 
 // Writes the answer to each line of the script, in order, after what the text holds.
-fn push_replies(text: &mut String, script: &[u8]) -> Result<(), AllocError>
-    ensures { λ r. ⌜ made r (λ _. string-bytes (now (text .exit)) ≡ string-bytes (now (text .entry)) ++ replies answerOf (lines (now (script .entry)))) ⌝ }
+fn push_replies<K: Holder>(text: &mut String, working: &Working<K>, script: &[u8]) -> Result<(), AllocError>
+    ensures { λ r. ⌜ made r (λ _. string-bytes (now (text .exit)) ≡ string-bytes (now (text .entry)) ++ replies (answerOf (K·Holder .contents (now (working .entry) .holder))) (lines (now (script .entry)))) ⌝ }
 {
     let mut left = script;
     while let Some((line, rest)) = next_line(left) {
-        push_line(text, &answer_to(line))?;
+        push_line(text, &answer_to(working, line))?;
         left = rest;
     }
     Ok(())
 }
 
-// All that the program prints for a file and a script.
-pub fn transcript(heap: Global, file: &[u8], script: &[u8]) -> Result<String, AllocError>
-    ensures { λ r. ⌜ made r (λ s. string-bytes s ≡ transcriptOf (now (file .entry)) (now (script .entry))) ⌝ }
+// All that is printed for a file and a script, over an empty draft of any store.
+pub fn transcript_over<K: Holder + Drop>(heap: Global, mut draft: Draft<K>, file: &[u8], script: &[u8]) -> Result<String, AllocError>
+    ensures { λ r. ⌜ made r (λ s. string-bytes s ≡ transcript-from (K·Holder .contents (draft .holder)) (now (file .entry)) (now (script .entry))) ⌝ }
 {
     let mut text = String::new(heap);
-    push_line(&mut text, &Answer::Loaded(0))?;
-    push_replies(&mut text, script)?;
+    match load(&mut draft, file) {
+        Ok(held) => {
+            push_line(&mut text, &Answer::Loaded(held))?;
+            let working = draft.close();
+            push_replies(&mut text, &working, script)?;
+        }
+        Err(refusal) => push_line(&mut text, &Answer::Refused(ScriptRefusal::Load(refusal)))?,
+    }
     Ok(text)
 }

@@ -6,5 +6,5 @@ use Rattle.script.proofs.Replies.{replies-after-first}
 use Rattle.script.proofs.run.push_replies.Needs as need
 
 pub loop-line-again : need.loop-line-again
-loop-line-again c =
-    replies-after-first answerOf _ _ (c .in-Some .line .now) _ _ (c .in-Some .ensures tt .leads .0) (search needs) ∙ c .loop-line .inv
+loop-line-again g c =
+    replies-after-first (answerOf (g .K·Holder .contents (c .args .working .now .holder))) _ _ (c .in-Some .line .now) _ _ (c .in-Some .ensures tt .leads .0) (search needs) ∙ c .loop-line .inv

@@ -9,8 +9,8 @@ use Rattle.script.proofs.run.push_replies.Given as given
 
 -- what was written, and what is still to be written, give all replies after the text at the start
 abbrev pub Inv-loop-line : given.InvT-loop-line
-Inv-loop-line l =
-    string-bytes (l .text) ++ replies answerOf (lines (l .left)) ≡ string-bytes (l .entry .text) ++ replies answerOf (lines (l .entry .left))
+Inv-loop-line g l =
+    string-bytes (l .text) ++ replies (answerOf (g .K·Holder .contents (l .working .holder))) (lines (l .left)) ≡ string-bytes (l .entry .text) ++ replies (answerOf (g .K·Holder .contents (l .working .holder))) (lines (l .entry .left))
 
 abbrev pub μ-loop-line : given.MeasureT-loop-line
-μ-loop-line l = length (l .left)
+μ-loop-line g l = length (l .left)
