@@ -4,3 +4,4 @@ pub mod Faces
 pub mod Writes
 pub mod Lays
 pub mod Marks
+pub mod Told

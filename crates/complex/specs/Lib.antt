@@ -1,3 +1,4 @@
 pub mod Simplex
 pub mod Mask
 pub mod Model
+pub mod Laws

@@ -46,7 +46,8 @@ impl<K: Holder> Draft<K> {
     pub fn held(&self) -> usize
         ensures { λ r. ⌜ r ≡ length (K·Holder .contents (now (self .entry) .holder) .model) ⌝ }
     {
-        self.holder.store().held()
+        let store = self.holder.store();
+        store.held()
     }
 
     // Adds a simplex and its absent faces, and answers how many it added.
