@@ -16,9 +16,10 @@ use Rattle.order.specs.Assoc.{by, lookup}
 use Rattle.order.proofs.Maps.{lookup-put, same-lookups}
 use Rattle.order.proofs.Ranks.{self-same}
 use Rattle.complex.specs.Laws.{Order-as-told, Write-changes-one, Masks-tell-models, Faces-are-subsets}
-use Rattle.complex.specs.Model.{Model, mask}
+use Rattle.complex.specs.Model.{Model, mask, Legal}
 use Rattle.complex.specs.Simplex.{colex}
 use Rattle.complex.proofs.Faces.{listed-is-face, face-is-listed}
+use Rattle.complex.proofs.Masks.{bit-holds}
 use Rattle.complex.proofs.Order.{colex-lawful, colex-exact}
 use Rattle.complex.proofs.Writes.{mask-write, write-keeps-order}
 
@@ -62,3 +63,10 @@ masks-tell M N u v f g e = same-lookups colex colex-lawful colex-exact M N u v (
 
 pub faces-told : Faces-are-subsets
 faces-told = record { listed = face-is-listed; face = listed-is-face }
+
+-- a model that holds nothing is legal
+pub nothing-legal : Legal []
+nothing-legal = record {
+  body = λ s h. absurd (omega arith);
+  closed = λ p s t i f. let h : 0 < 0 = bit-holds p 0 i in absurd (omega arith);
+}

@@ -1,4 +1,5 @@
 pub mod Simplex
 pub mod Mask
 pub mod Model
+pub mod Legality
 pub mod Laws

@@ -1,0 +1,2 @@
+// For each kind of store, the store with the fact that its model is legal.
+pub mod table;
