@@ -4,7 +4,7 @@ ghost use mathlib.Core.List.{_++_};
 ghost use Rattle.std.specs.Of.String.{string-bytes};
 ghost use Rattle.std.specs.Vec.{made};
 ghost use Rattle.script.specs.Lines.{lines};
-ghost use Rattle.script.specs.Transcript.{answerOf, replies, transcript-from};
+ghost use Rattle.script.specs.Transcript.{answerOf, replies, transcript-from, transcriptOf};
 use crate::answers::Answer;
 use crate::answers::push_line;
 use crate::lines::Command;
@@ -12,11 +12,20 @@ use crate::lines::command_of;
 use crate::lines::next_line;
 use crate::refusal::ScriptRefusal;
 use file::load::load;
+use holders::table::TableHolder;
+use holders::table::holding::TableHolding;
 use model::holder::Holder;
+use model::holder::LentHolder;
 use model::stages::Draft;
 use model::stages::Working;
+use order::record::Record;
+use simplex::simplex::Simplex;
 use std::alloc::AllocError;
 use std::alloc::Global;
+use table_store::store::TableStore;
+
+// The records of the program's store.
+const RECORDS: usize = 4000;
 
 // The answer to one line.
 fn answer_to<K: Holder>(working: &Working<K>, line: &[u8]) -> Answer
@@ -57,4 +66,17 @@ pub fn transcript_over<K: Holder + Drop>(heap: Global, mut draft: Draft<K>, file
         Err(refusal) => push_line(&mut text, &Answer::Refused(ScriptRefusal::Load(refusal)))?,
     }
     Ok(text)
+}
+
+// All that the program prints for a file and a script.
+pub fn transcript(heap: Global, file: &[u8], script: &[u8]) -> Result<String, AllocError>
+    ensures { λ r. ⌜ made r (λ s. string-bytes s ≡ transcriptOf (now (file .entry)) (now (script .entry))) ⌝ }
+{
+    let mut records = [Record {
+        key: Simplex::point(0),
+        value: 0,
+    }; RECORDS];
+    let mut store = TableStore::open(&mut records);
+    let mut holder = TableHolder::over(&mut store);
+    transcript_over(heap, Draft::open(&mut holder), file, script)
 }

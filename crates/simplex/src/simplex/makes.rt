@@ -9,6 +9,13 @@ use crate::shape::Shape;
 use crate::simplex::Simplex;
 
 impl Simplex {
+    // A vertex as a simplex.
+    pub fn point(v: u16) -> Simplex
+        ensures { λ r. ⌜ vertices r ≡ v ∷ [] ⌝ }
+    {
+        Simplex { shape: Shape::Point(v) }
+    }
+
     // The simplex of these vertices, if they are one to four in strictly rising order.
     pub fn of(list: &[u16]) -> Option<Simplex>
         ensures { λ r. ⌜ found r ≡ checked (now (list .entry)) ⌝ }
