@@ -1,8 +1,10 @@
 // Opening a table store, and its questions and changes.
 ghost use mathlib.Core.Path.{_≡_};
+ghost use mathlib.Core.Bool.{true};
 ghost use mathlib.Core.List.{[]};
 ghost use lib.ListN.{length, drop};
 ghost use denote.Ref.{now, name};
+ghost use Rattle.std.specs.Results.{isErr};
 ghost use Rattle.simplex.specs.Simplexes.{vertices};
 ghost use Rattle.store.specs.Puts.{put-answer, put-next};
 ghost use Rattle.table_store.specs.Limits.{vertex-range};
@@ -68,6 +70,7 @@ pub impl<'a> Store for TableStore<'a> as RecordsStore {
         ensures value { λ r. ⌜ r ≡ put-answer (contents (now (self .entry))) (vertices s) mask ⌝ }
         ensures after { λ _. ⌜ contents (now (self .exit)) ≡ put-next (contents (now (self .entry))) (vertices s) mask ⌝ }
         ensures lender { λ _. ⌜ name (now (self .exit) .table .records) ≡ name (now (self .entry) .table .records) ⌝ }
+        ensures refused { λ r. ⌜ (isErr r ≡ true → now (now (self .exit) .table .records) ≡ now (now (self .entry) .table .records)) ⌝ }
         ensures surplus { λ _. ⌜ drop (now (self .entry) .limit) (now (now (self .exit) .table .records)) ≡ drop (now (self .entry) .limit) (now (now (self .entry) .table .records)) ⌝ }
     {
         if mask == 0 {

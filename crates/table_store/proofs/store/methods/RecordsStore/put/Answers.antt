@@ -3,7 +3,7 @@ use mathlib.Core.Path.{_≡_, refl, sym, _∙_}
 use Prim.Native.Nat.{_<_}
 use denote.Ref.{now}
 use Rattle.std.specs.declared.option.Option.the-variants.{Some, None}
-use Rattle.std.proofs.shelf.Tests.{cond-true, cond-false, eq-eqb, ne-eqb}
+use Rattle.std.proofs.shelf.Tests.{cond-true, cond-false, eq-eqb, ne-eqb, true≢false}
 use Rattle.complex.specs.Model.{mask}
 use Rattle.simplex.specs.Simplexes.{vertices}
 use Rattle.table.proofs.Changes.{drop-further}
@@ -31,6 +31,7 @@ returns-then-mask-eq0 c =
       value = sym value;
       after = changed-contents t s new None (c .args .mask) changed (cond-true _ _ _ (eq-eqb _ 0 (c .if-mask-eq0 .taken))) ∙ sym (accepted-next (contents t) (vertices s) (c .args .mask) value);
       lender = c .remove .ensures .lender;
+      refused = λ h. absurd (true≢false (sym h));
       surplus = drop-further (t .table .len) (t .limit) (now (new .records)) (now (t .table .records)) (t .used) (c .remove .ensures .rest);
     }
 
@@ -43,6 +44,7 @@ returns-then-self c =
       value = sym value;
       after = sym (refused-next (contents t) (vertices s) (c .args .mask) value);
       lender = refl;
+      refused = λ h. refl;
       surplus = refl;
     }
 
@@ -78,5 +80,6 @@ returns c =
       value = sym value;
       after = changed-contents t s new (Some (c .args .mask)) (c .args .mask) (changed p) (cond-false _ _ _ (ne-eqb _ 0 (c .if-mask-eq0 .left))) ∙ sym (accepted-next (contents t) (vertices s) (c .args .mask) value);
       lender = c .put .ensures .lender;
+      refused = λ h. absurd (true≢false (sym h));
       surplus = drop-further (new .len) (t .limit) (now (new .records)) (now (t .table .records)) (kept p .1 .0) (c .put .ensures .unused);
     }
