@@ -1,0 +1,10 @@
+pub mod Vertices
+pub mod Images
+pub mod Legals
+pub mod Eulers
+pub mod Splits
+pub mod Made
+pub mod Chains
+pub mod Traces
+pub mod Cones
+pub mod Worked

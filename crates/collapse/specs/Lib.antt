@@ -1,0 +1,9 @@
+pub mod Image
+pub mod Link
+pub mod Pieces
+pub mod Split
+pub mod Standing
+pub mod Laws
+pub mod PieceLaws
+pub mod Extended
+pub mod Cases
