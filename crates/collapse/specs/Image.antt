@@ -9,11 +9,7 @@ use Rattle.std.specs.Iters.{folded}
 use Rattle.order.specs.declared.record.Record.{Record}
 use Rattle.complex.specs.Model.{Model, mask, write, Sorted, In}
 use Rattle.complex.specs.Simplex.{has, plus}
-
--- a vertex taken away
-abbrev pub less : ℕ → List ℕ → List ℕ
-less a [] = []
-less a (x ∷ xs) = cond (eqb a x) xs (x ∷ less a xs)
+pub use Rattle.complex.specs.Simplex.{less}
 
 -- v replaced by u, a repeated vertex written once
 abbrev pub image : ℕ → ℕ → List ℕ → List ℕ

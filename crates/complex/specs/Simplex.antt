@@ -1,7 +1,7 @@
 -- A simplex is a strictly rising list of one to four vertices. Its order, its faces, a vertex added.
 use mathlib.Core.Path.{_≡_}
 use mathlib.Core.List.{List, [], _∷_, _++_, map}
-use mathlib.Core.Bool.{Bool, true, false, _||_, _&&_}
+use mathlib.Core.Bool.{Bool, true, false, _||_, _&&_, cond}
 use Prim.Native.Nat.{ℕ, _<_}
 use lib.Dec.{eqb, ltb, leb}
 use lib.ListN.{length}
@@ -68,3 +68,8 @@ among s (f ∷ fs) = isEq (colex s f) || among s fs
 abbrev pub plus : ℕ → List ℕ → List ℕ
 plus a [] = a ∷ []
 plus a (x ∷ xs) = by (rank a x) (a ∷ (x ∷ xs)) (x ∷ xs) (x ∷ plus a xs)
+
+-- a vertex taken away
+abbrev pub less : ℕ → List ℕ → List ℕ
+less a [] = []
+less a (x ∷ xs) = cond (eqb a x) xs (x ∷ less a xs)

@@ -2,9 +2,9 @@
 ghost use mathlib.Core.Path.{_≡_};
 ghost use mathlib.Core.Bool.{true};
 ghost use mathlib.Core.List.{[], _∷_};
-ghost use Rattle.complex.specs.Simplex.{plus, rises};
+ghost use Rattle.complex.specs.Simplex.{plus, less, rises};
 ghost use Rattle.simplex.specs.Shapes.{corners};
-ghost use Rattle.simplex.specs.Simplexes.{vertices, found, checked, fitted};
+ghost use Rattle.simplex.specs.Simplexes.{vertices, vertices-or-none, found, checked, fitted};
 use crate::shape::Shape;
 use crate::simplex::Simplex;
 
@@ -45,6 +45,71 @@ impl Simplex {
                 }
             }
         }
+    }
+}
+
+impl Simplex {
+    // This simplex without the vertex v; None is the empty simplex.
+    pub fn without(&self, v: u16) -> Option<Simplex>
+        ensures { λ r. ⌜ vertices-or-none r ≡ less v (vertices (now (self .entry))) ⌝ }
+    {
+        match self.shape {
+            Shape::Point(a) => {
+                if v == a {
+                    None
+                } else {
+                    Some(*self)
+                }
+            }
+            Shape::Edge(a, b) => edge_without(a, b, v),
+            Shape::Triangle(a, b, c) => triangle_without(a, b, c, v),
+            Shape::Tetrahedron(a, b, c, d) => tetrahedron_without(a, b, c, d, v),
+        }
+    }
+}
+
+fn edge_without(a: u16, b: u16, v: u16) -> Option<Simplex>
+    requires { ⌜ rises (a ∷ (b ∷ [])) ≡ true ⌝ }
+    ensures { λ r. ⌜ vertices-or-none r ≡ less v (a ∷ (b ∷ [])) ⌝ }
+{
+    if v == a {
+        Some(Simplex { shape: Shape::Point(b) })
+    } else if v == b {
+        Some(Simplex { shape: Shape::Point(a) })
+    } else {
+        Some(Simplex { shape: Shape::Edge(a, b) })
+    }
+}
+
+fn triangle_without(a: u16, b: u16, c: u16, v: u16) -> Option<Simplex>
+    requires { ⌜ rises (a ∷ (b ∷ (c ∷ []))) ≡ true ⌝ }
+    ensures { λ r. ⌜ vertices-or-none r ≡ less v (a ∷ (b ∷ (c ∷ []))) ⌝ }
+{
+    if v == a {
+        Some(Simplex { shape: Shape::Edge(b, c) })
+    } else if v == b {
+        Some(Simplex { shape: Shape::Edge(a, c) })
+    } else if v == c {
+        Some(Simplex { shape: Shape::Edge(a, b) })
+    } else {
+        Some(Simplex { shape: Shape::Triangle(a, b, c) })
+    }
+}
+
+fn tetrahedron_without(a: u16, b: u16, c: u16, d: u16, v: u16) -> Option<Simplex>
+    requires { ⌜ rises (a ∷ (b ∷ (c ∷ (d ∷ [])))) ≡ true ⌝ }
+    ensures { λ r. ⌜ vertices-or-none r ≡ less v (a ∷ (b ∷ (c ∷ (d ∷ [])))) ⌝ }
+{
+    if v == a {
+        Some(Simplex { shape: Shape::Triangle(b, c, d) })
+    } else if v == b {
+        Some(Simplex { shape: Shape::Triangle(a, c, d) })
+    } else if v == c {
+        Some(Simplex { shape: Shape::Triangle(a, b, d) })
+    } else if v == d {
+        Some(Simplex { shape: Shape::Triangle(a, b, c) })
+    } else {
+        Some(Simplex { shape: Shape::Tetrahedron(a, b, c, d) })
     }
 }
 

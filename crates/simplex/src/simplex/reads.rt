@@ -1,7 +1,7 @@
 // What a simplex says of its vertices.
 ghost use mathlib.Core.Path.{_≡_};
 ghost use lib.ListN.{length};
-ghost use Rattle.complex.specs.Simplex.{below};
+ghost use Rattle.complex.specs.Simplex.{below, has};
 ghost use Rattle.simplex.specs.Simplexes.{vertices};
 use crate::shape::Shape;
 use crate::simplex::Simplex;
@@ -30,5 +30,17 @@ impl Simplex {
             Shape::Tetrahedron(_, _, _, d) => d,
         };
         last < range
+    }
+
+    // Is v one of the vertices?
+    pub fn has(&self, v: u16) -> bool
+        ensures { λ r. ⌜ r ≡ has v (vertices (now (self .entry))) ⌝ }
+    {
+        match self.shape {
+            Shape::Point(a) => v == a,
+            Shape::Edge(a, b) => v == a || v == b,
+            Shape::Triangle(a, b, c) => v == a || v == b || v == c,
+            Shape::Tetrahedron(a, b, c, d) => v == a || v == b || v == c || v == d,
+        }
     }
 }
