@@ -62,7 +62,7 @@ module _ (t : TableStore) (k : Simplex) (new : Table Simplex ℕ) where
       let after = h .long ∙ sym (length-entries (held new)) ∙ ap length (changed-model o h) in
       omega (arith, sums, after, contents-length t, length-is-total M, length-is-total (put colex (vertices k) o M), there-weighs (vertices k) found, there-weighs (vertices k) o)
 
-  pub changed-kept : (o : Option ℕ) → Changed t k o new → fits vertex-range (bind (vertices k) o []) ≡ true → t .table .len + there o ≤ t .limit + there found → Kept t new
+  changed-kept : (o : Option ℕ) → Changed t k o new → fits vertex-range (bind (vertices k) o []) ≡ true → t .table .len + there o ≤ t .limit + there found → Kept t new
   changed-kept o h fit roomy =
       let same = ap (fits vertex-range) (changed-model o h) in
       (h .good, (omega (arith, changed-length o h), (omega (arith, h .lent, t .lent), (t .few, (same ∙ put-keeps-fits vertex-range (vertices k) o (contents t .model) fit (t .fit), tt)))))

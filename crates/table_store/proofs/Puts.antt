@@ -13,7 +13,7 @@ use Rattle.complex.specs.Model.{mask, write}
 use Rattle.complex.specs.Simplex.{below}
 use Rattle.store.specs.Contents.{Contents, holding}
 use Rattle.store.specs.Puts.{put-answer, put-next, settled}
-use Rattle.store.specs.declared.refusal.StoreRefusal.the-variants.{Range, Full}
+use Rattle.store.specs.declared.refusal.StoreRefusal.the-variants.{Full}
 
 module _ (c : Contents) (s : List ℕ) (m : ℕ) where
   pub removal-accepted : m ≡ 0 → put-answer c s m ≡ Ok tt

@@ -1,3 +1,4 @@
+// What a table store is made of, and what holds of it at all times.
 pub mod methods;
 
 ghost use mathlib.Core.Path.{_≡_};

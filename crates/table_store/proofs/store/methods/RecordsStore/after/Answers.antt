@@ -1,3 +1,4 @@
+-- The next key of the table is the next simplex of the model, and from the empty simplex the first.
 use mathlib.Core.Path.{sym, ap, _∙_}
 use Rattle.order.specs.Assoc.{first, later, next}
 use Rattle.complex.specs.Simplex.{colex}

@@ -1,3 +1,4 @@
+-- A look-up in the table is one in the model.
 use mathlib.Core.Path.{sym, ap, _∙_}
 use Rattle.std.specs.Options.{valueOr}
 use Rattle.table.specs.Held.{held}

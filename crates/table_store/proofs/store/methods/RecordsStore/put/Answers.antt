@@ -1,3 +1,4 @@
+-- What each way through a put answers and leaves.
 use native.Mathlib.Omega.{arith}
 use mathlib.Core.Path.{_≡_, refl, sym, _∙_}
 use Prim.Native.Nat.{_<_}
