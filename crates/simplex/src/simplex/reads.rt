@@ -43,4 +43,11 @@ impl Simplex {
             Shape::Tetrahedron(a, b, c, d) => v == a || v == b || v == c || v == d,
         }
     }
+
+    // The kind of simplex, with its vertices.
+    pub fn shape(&self) -> Shape
+        ensures { λ r. ⌜ r ≡ now (self .entry) .shape ⌝ }
+    {
+        self.shape
+    }
 }

@@ -1,0 +1,11 @@
+pub mod Choose
+pub mod Ranks
+pub mod Order
+pub mod Chosen
+pub mod Masks
+pub mod Grid
+pub mod Fronts
+pub mod Finding
+pub mod Emptied
+pub mod Changes
+pub mod Placed
