@@ -51,7 +51,15 @@ mod tests {
         ]
     }
 
-    fn all_calls<K: Holder + Drop>(holder: K) -> ([Result<usize, u8>; 10], [Result<usize, u8>; 8], [Result<u8, u8>; 6], [Result<i32, u8>; 6], usize) {
+    fn all_calls<K: Holder + Drop>(
+        holder: K,
+    ) -> (
+        [Result<usize, u8>; 10],
+        [Result<usize, u8>; 8],
+        [Result<u8, u8>; 6],
+        [Result<i32, u8>; 6],
+        usize,
+    ) {
         let mut draft = Draft::open(holder);
         let lays = laid(&mut draft);
         let marks = marked(&mut draft);
@@ -115,7 +123,10 @@ mod tests {
         }; 8];
         let mut table = TableStore::open(&mut records);
         let mut table_holder = TableHolder::over(&mut table);
-        check_eq(at_the_range(&mut table_holder), [Ok(3), Ok(2), Ok(3), Ok(0)])?;
+        check_eq(
+            at_the_range(&mut table_holder),
+            [Ok(3), Ok(2), Ok(3), Ok(0)],
+        )?;
         let mut enough = [255; 41448];
         let mut grid = GridStore::open(&mut enough);
         let mut holder = GridHolder::over(&mut grid);
@@ -123,7 +134,10 @@ mod tests {
         let mut short = [255; 41447];
         let mut grid = GridStore::open(&mut short);
         let mut holder = GridHolder::over(&mut grid);
-        check_eq(at_the_range(&mut holder), [Err(22), Err(3), Err(3), Err(23)])?;
+        check_eq(
+            at_the_range(&mut holder),
+            [Err(22), Err(3), Err(3), Err(23)],
+        )?;
         check_eq(short[41446], 255)
     }
 }

@@ -154,9 +154,10 @@ not-both false f = refl
 
 distinct-append : (fs gs : List (List ℕ)) → Distinct fs → Distinct gs → ((t : List ℕ) → among t fs ≡ true → among t gs ≡ true → ⊥) → Distinct (fs ++ gs)
 distinct-append [] gs d e n = e
-distinct-append (f ∷ fs) gs d e n =
-    ( among-append f fs gs ∙ or-from _ _ (d .0) (not-both (among f gs) (n f (or-left _ _ (same-as-itself f))))
-    , distinct-append fs gs (d .1) e (λ t h. n t (or-right _ _ h)) )
+distinct-append (f ∷ fs) gs d e n = (
+  among-append f fs gs ∙ or-from _ _ (d .0) (not-both (among f gs) (n f (or-left _ _ (same-as-itself f)))),
+  distinct-append fs gs (d .1) e (λ t h. n t (or-right _ _ h)),
+)
 
 tails-same : (x : ℕ) (f g : List ℕ) → x ∷ f ≡ x ∷ g → f ≡ g
 tails-same x f g e = cc
@@ -168,9 +169,10 @@ distinct-in-front x (f ∷ fs) d =
 
 pub faces-distinct : (s : List ℕ) → Rising s → Distinct (faces s)
 faces-distinct [] r = tt
-faces-distinct (x ∷ xs) r =
-    ( not-both (among (x ∷ []) (faces xs ++ map (λ f. x ∷ f) (faces xs))) (λ h. point (or-cases _ _ (sym (among-append (x ∷ []) (faces xs) (map (λ f. x ∷ f) (faces xs))) ∙ h)))
-    , distinct-append (faces xs) (map (λ f. x ∷ f) (faces xs)) (faces-distinct xs (r .1)) (distinct-in-front x (faces xs) (faces-distinct xs (r .1))) apart )
+faces-distinct (x ∷ xs) r = (
+  not-both (among (x ∷ []) (faces xs ++ map (λ f. x ∷ f) (faces xs))) (λ h. point (or-cases _ _ (sym (among-append (x ∷ []) (faces xs) (map (λ f. x ∷ f) (faces xs))) ∙ h))),
+  distinct-append (faces xs) (map (λ f. x ∷ f) (faces xs)) (faces-distinct xs (r .1)) (distinct-in-front x (faces xs) (faces-distinct xs (r .1))) apart,
+)
   where
     lacks : (t : List ℕ) → among t (faces xs) ≡ true → has x t ≡ true → ⊥
     lacks t h i = true≢false (sym (listed-is-face xs t (r .1) h .subset x i) ∙ under-lacks x x xs (omega arith) (r .0))

@@ -14,7 +14,8 @@ use Rattle.complex.specs.Simplex.{colex, rises, below}
 use Rattle.grid_store.specs.Places.{vertex-range, places, first-place, term, place, size-at, largest, chosen, simplex-at}
 use Rattle.grid_store.proofs.Choose.{choose-more, term-chooses}
 use Rattle.grid_store.proofs.Ranks.{chosen-terms, terms-chosen}
-use Rattle.grid_store.proofs.Order.{InGrid, next-size, place-in-grid, places-keep-order, places-tell-apart}
+use Rattle.grid_store.specs.Laws.{InGrid}
+use Rattle.grid_store.proofs.Order.{next-size, place-in-grid, places-keep-order, places-tell-apart}
 
 -- only a vertex that is not 0 adds to the place
 pub adds-nothing : (k : ℕ) → 1 ≤ k → term k 0 ≡ 0

@@ -22,7 +22,8 @@ use Rattle.store.specs.Contents.{fits}
 use Rattle.store.proofs.Walks.{fit-parts}
 use Rattle.grid_store.specs.Places.{vertex-range, places, first-place, place, past, simplex-at}
 use Rattle.grid_store.specs.Masks.{masks-from}
-use Rattle.grid_store.proofs.Order.{InGrid, proper-parts, fewer-first, sizes-rise, place-below, place-in-grid}
+use Rattle.grid_store.specs.Laws.{InGrid}
+use Rattle.grid_store.proofs.Order.{proper-parts, fewer-first, sizes-rise, place-below, place-in-grid}
 use Rattle.grid_store.proofs.Chosen.{simplex-in-grid, simplex-of-place, place-of-simplex}
 use Rattle.grid_store.proofs.Masks.{rank-less, lookup-masks, put-masks, later-place, later-between}
 

@@ -16,14 +16,10 @@ use Rattle.std.proofs.shelf.Ways.{tells}
 use Rattle.order.proofs.Ranks.{exchanged}
 use Rattle.complex.specs.Simplex.{colex, rises, proper, below}
 use Rattle.complex.proofs.Order.{colex-lawful, colex-exact}
+use Rattle.grid_store.specs.Laws.{InGrid}
 use Rattle.grid_store.specs.Places.{vertex-range, places, first-place, place}
 use Rattle.grid_store.proofs.Choose.{choose, term-chooses}
 use Rattle.grid_store.proofs.Ranks.{chosen-terms, terms-chosen, terms-fit, terms-rise}
-
--- a simplex with its vertices in range
-pub record InGrid (s : List ℕ) : Type 0 where
-  pub simplex : proper s ≡ true
-  pub ranged : below vertex-range s ≡ true
 
 pub record Proper (s : List ℕ) : Type 0 where
   pub some : 1 ≤ length s

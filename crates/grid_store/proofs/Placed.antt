@@ -31,7 +31,8 @@ use Rattle.grid_store.specs.Stores.{contents}
 use Rattle.grid_store.proofs.Changes.{grid-length, grid-short}
 use Rattle.grid_store.proofs.Fronts.{front-of-write}
 use Rattle.grid_store.proofs.Grid.{write-byte, outside-absent, removing-absent}
-use Rattle.grid_store.proofs.Order.{InGrid, place-in-grid}
+use Rattle.grid_store.specs.Laws.{InGrid}
+use Rattle.grid_store.proofs.Order.{place-in-grid}
 
 corners-proper : (s : Shape) → rises (corners s) ≡ true → proper (corners s) ≡ true
 corners-proper (Point a) h = h

@@ -5,6 +5,7 @@ ghost use Prim.Native.Nat.{_≤_, _<_};
 ghost use Rattle.std.specs.declared.option.Option.the-variants.{Some};
 ghost use Rattle.complex.specs.Simplex.{below};
 ghost use Rattle.simplex.specs.Simplexes.{vertices, found};
+ghost use Rattle.grid_store.specs.Laws.{Places-number-simplexes};
 ghost use Rattle.grid_store.specs.Places.{vertex-range, places, term, first-place, place, past, size-at, largest, simplex-at};
 use simplex::shape::Shape;
 use simplex::simplex::Simplex;
@@ -123,4 +124,11 @@ pub(crate) fn simplex_at(p: usize) -> Option<Simplex>
         vertices[k] = n;
     }
     Simplex::of(&vertices[..size])
+}
+
+// The places number the simplexes in range, one to one and in their order.
+pub fn places_number_simplexes() -> u8
+    ensures { λ _. ⌜ Places-number-simplexes ⌝ }
+{
+    0
 }

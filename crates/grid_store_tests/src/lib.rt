@@ -82,14 +82,26 @@ mod tests {
         }
         check(store.after(last).is_none())?;
         if let [s, ..] = list {
-            check_eq((number(store.put(*s, 0)), number(store.put(*s, 0)), store.look(s)), (0, 0, 0))?;
+            check_eq(
+                (
+                    number(store.put(*s, 0)),
+                    number(store.put(*s, 0)),
+                    store.look(s),
+                ),
+                (0, 0, 0),
+            )?;
         }
-        check_eq(store.held() + 1, list.len())
+        check_eq(store.held(), list.len().saturating_sub(1))
     }
 
     #[test]
     fn holds_simplexes_in_order() -> Result<(), Fail> {
-        let list = [simplex(&[7])?, simplex(&[2, 5])?, simplex(&[2, 5, 7])?, simplex(&[28, 29, 30, 31])?];
+        let list = [
+            simplex(&[7])?,
+            simplex(&[2, 5])?,
+            simplex(&[2, 5, 7])?,
+            simplex(&[28, 29, 30, 31])?,
+        ];
         hold(&mut [1; 41448], &list)
     }
 
@@ -99,8 +111,14 @@ mod tests {
         let triangle = simplex(&[0, 1, 2])?;
         let mut store = GridStore::open(bytes);
         check_eq(store.range(), 32)?;
-        check_eq((number(store.put(outside, 1)), number(store.put(outside, 0))), (3, 0))?;
-        check_eq((number(store.put(inside, 1)), number(store.put(triangle, 1))), (0, 0))?;
+        check_eq(
+            (number(store.put(outside, 1)), number(store.put(outside, 0))),
+            (3, 0),
+        )?;
+        check_eq(
+            (number(store.put(inside, 1)), number(store.put(triangle, 1))),
+            (0, 0),
+        )?;
         check_eq((store.look(&outside), store.held()), (0, 2))?;
         check(is(store.after(Some(outside)), &triangle))
     }
@@ -115,7 +133,14 @@ mod tests {
         let outside = simplex(&[32])?;
         let mut store = GridStore::open(bytes);
         check_eq((store.held(), store.limit(), store.range()), (0, 0, 32))?;
-        check_eq((number(store.put(outside, 1)), number(store.put(point, 1)), number(store.put(point, 0))), (3, 22, 0))?;
+        check_eq(
+            (
+                number(store.put(outside, 1)),
+                number(store.put(point, 1)),
+                number(store.put(point, 0)),
+            ),
+            (3, 22, 0),
+        )?;
         check_eq(store.look(&point), 0)?;
         check(store.after(None).is_none())?;
         for byte in bytes.iter() {

@@ -25,12 +25,20 @@ pub fn euler<S: Store>(store: &S, part: Part) -> i32
 fn counts_up<S: Store>(store: &S, part: Part, s: &Simplex) -> usize
     ensures { λ r. ⌜ r ≡ counts-up (part .number) (vertices (now (s .entry))) (mask (S·Store .contents (now (store .entry)) .model) (vertices (now (s .entry)))) ⌝ }
 {
-    if part.is_in(store.look(s)) && s.size() % 2 == 1 { 1 } else { 0 }
+    if part.is_in(store.look(s)) && s.size() % 2 == 1 {
+        1
+    } else {
+        0
+    }
 }
 
 // 1 for a simplex of the part with two or four vertices.
 fn counts_down<S: Store>(store: &S, part: Part, s: &Simplex) -> usize
     ensures { λ r. ⌜ r ≡ counts-down (part .number) (vertices (now (s .entry))) (mask (S·Store .contents (now (store .entry)) .model) (vertices (now (s .entry)))) ⌝ }
 {
-    if part.is_in(store.look(s)) && s.size() % 2 == 0 { 1 } else { 0 }
+    if part.is_in(store.look(s)) && s.size() % 2 == 0 {
+        1
+    } else {
+        0
+    }
 }

@@ -41,7 +41,11 @@ fn answer_to<K: Holder>(working: &Working<K>, line: &[u8]) -> Answer
 }
 
 // Writes the answer to each line of the script, in order, after what the text holds.
-fn push_replies<K: Holder>(text: &mut String, working: &Working<K>, script: &[u8]) -> Result<(), AllocError>
+fn push_replies<K: Holder>(
+    text: &mut String,
+    working: &Working<K>,
+    script: &[u8],
+) -> Result<(), AllocError>
     ensures { λ r. ⌜ made r (λ _. string-bytes (now (text .exit)) ≡ string-bytes (now (text .entry)) ++ replies (answerOf (K·Holder .contents (now (working .entry) .holder))) (lines (now (script .entry)))) ⌝ }
 {
     let mut left = script;
@@ -53,7 +57,12 @@ fn push_replies<K: Holder>(text: &mut String, working: &Working<K>, script: &[u8
 }
 
 // All that is printed for a file and a script, over an empty draft of any store.
-pub fn transcript_over<K: Holder + Drop>(heap: Global, mut draft: Draft<K>, file: &[u8], script: &[u8]) -> Result<String, AllocError>
+pub fn transcript_over<K: Holder + Drop>(
+    heap: Global,
+    mut draft: Draft<K>,
+    file: &[u8],
+    script: &[u8],
+) -> Result<String, AllocError>
     ensures { λ r. ⌜ made r (λ s. string-bytes s ≡ transcript-from (K·Holder .contents (draft .holder)) (now (file .entry)) (now (script .entry))) ⌝ }
 {
     let mut text = String::new(heap);

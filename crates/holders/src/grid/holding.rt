@@ -5,12 +5,12 @@ ghost use Rattle.complex.specs.Legality.{legal-prop};
 ghost use Rattle.model.specs.Calls.{emptied};
 ghost use Rattle.grid_store.specs.Stores.{contents as contents-of, contents-stored};
 use crate::grid::GridHolder;
+use grid_store::store::GridStore;
+use grid_store::store::methods::BytesStore;
 use model::edit::Edit;
 use model::edits::remove_all;
 use model::holder::Holder;
 use store::meaning::Store;
-use grid_store::store::GridStore;
-use grid_store::store::methods::BytesStore;
 
 impl<'b, 'a> GridHolder<'b, 'a> {
     // Empties the store, and holds it.

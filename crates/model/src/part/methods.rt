@@ -13,7 +13,13 @@ impl Part {
     pub fn of(number: u16) -> Option<Part>
         ensures { λ r. ⌜ mapped (λ p. p .number) r ≡ cond (ltb number parts) (Some number) None ⌝ }
     {
-        if number < 8 { Some(Part { number: number as u8 }) } else { None }
+        if number < 8 {
+            Some(Part {
+                number: number as u8,
+            })
+        } else {
+            None
+        }
     }
 
     // The mask that has this part's bit alone.

@@ -17,13 +17,7 @@ impl Simplex {
         ensures { λ r. ⌜ found r ≡ nth (faces (vertices (now (self .entry)))) i ⌝ }
     {
         match self.shape {
-            Shape::Point(_) => {
-                if i == 0 {
-                    Some(*self)
-                } else {
-                    None
-                }
-            }
+            Shape::Point(_) => { if i == 0 { Some(*self) } else { None } }
             Shape::Edge(a, b) => edge_face(a, b, i),
             Shape::Triangle(a, b, c) => triangle_face(a, b, c, i),
             Shape::Tetrahedron(a, b, c, d) => tetrahedron_face(a, b, c, d, i),
@@ -34,21 +28,27 @@ impl Simplex {
 fn point(a: u16) -> Option<Simplex>
     ensures { λ r. ⌜ found r ≡ Some (a ∷ []) ⌝ }
 {
-    Some(Simplex { shape: Shape::Point(a) })
+    Some(Simplex {
+        shape: Shape::Point(a),
+    })
 }
 
 fn edge(a: u16, b: u16) -> Option<Simplex>
     requires { ⌜ a < b ⌝ }
     ensures { λ r. ⌜ found r ≡ Some (a ∷ (b ∷ [])) ⌝ }
 {
-    Some(Simplex { shape: Shape::Edge(a, b) })
+    Some(Simplex {
+        shape: Shape::Edge(a, b),
+    })
 }
 
 fn triangle(a: u16, b: u16, c: u16) -> Option<Simplex>
     requires { ⌜ (a < b) × (b < c) ⌝ }
     ensures { λ r. ⌜ found r ≡ Some (a ∷ (b ∷ (c ∷ []))) ⌝ }
 {
-    Some(Simplex { shape: Shape::Triangle(a, b, c) })
+    Some(Simplex {
+        shape: Shape::Triangle(a, b, c),
+    })
 }
 
 fn edge_face(a: u16, b: u16, i: usize) -> Option<Simplex>
@@ -98,7 +98,9 @@ fn tetrahedron_face(a: u16, b: u16, c: u16, d: u16, i: usize) -> Option<Simplex>
         11 => triangle(a, c, d),
         12 => triangle(a, b, c),
         13 => triangle(a, b, d),
-        14 => Some(Simplex { shape: Shape::Tetrahedron(a, b, c, d) }),
+        14 => Some(Simplex {
+            shape: Shape::Tetrahedron(a, b, c, d),
+        }),
         _ => None,
     }
 }

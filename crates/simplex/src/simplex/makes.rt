@@ -13,7 +13,9 @@ impl Simplex {
     pub fn point(v: u16) -> Simplex
         ensures { λ r. ⌜ vertices r ≡ v ∷ [] ⌝ }
     {
-        Simplex { shape: Shape::Point(v) }
+        Simplex {
+            shape: Shape::Point(v),
+        }
     }
 
     // The simplex of these vertices, if they are one to four in strictly rising order.
@@ -21,7 +23,9 @@ impl Simplex {
         ensures { λ r. ⌜ found r ≡ checked (now (list .entry)) ⌝ }
     {
         match list {
-            [a] => Some(Simplex { shape: Shape::Point(*a) }),
+            [a] => Some(Simplex {
+                shape: Shape::Point(*a),
+            }),
             [a, b] => edge_of(*a, *b),
             [a, b, c] => triangle_of(*a, *b, *c),
             [a, b, c, d] => tetrahedron_of(*a, *b, *c, *d),
@@ -54,13 +58,7 @@ impl Simplex {
         ensures { λ r. ⌜ vertices-or-none r ≡ less v (vertices (now (self .entry))) ⌝ }
     {
         match self.shape {
-            Shape::Point(a) => {
-                if v == a {
-                    None
-                } else {
-                    Some(*self)
-                }
-            }
+            Shape::Point(a) => { if v == a { None } else { Some(*self) } }
             Shape::Edge(a, b) => edge_without(a, b, v),
             Shape::Triangle(a, b, c) => triangle_without(a, b, c, v),
             Shape::Tetrahedron(a, b, c, d) => tetrahedron_without(a, b, c, d, v),
@@ -73,11 +71,17 @@ fn edge_without(a: u16, b: u16, v: u16) -> Option<Simplex>
     ensures { λ r. ⌜ vertices-or-none r ≡ less v (a ∷ (b ∷ [])) ⌝ }
 {
     if v == a {
-        Some(Simplex { shape: Shape::Point(b) })
+        Some(Simplex {
+            shape: Shape::Point(b),
+        })
     } else if v == b {
-        Some(Simplex { shape: Shape::Point(a) })
+        Some(Simplex {
+            shape: Shape::Point(a),
+        })
     } else {
-        Some(Simplex { shape: Shape::Edge(a, b) })
+        Some(Simplex {
+            shape: Shape::Edge(a, b),
+        })
     }
 }
 
@@ -86,13 +90,21 @@ fn triangle_without(a: u16, b: u16, c: u16, v: u16) -> Option<Simplex>
     ensures { λ r. ⌜ vertices-or-none r ≡ less v (a ∷ (b ∷ (c ∷ []))) ⌝ }
 {
     if v == a {
-        Some(Simplex { shape: Shape::Edge(b, c) })
+        Some(Simplex {
+            shape: Shape::Edge(b, c),
+        })
     } else if v == b {
-        Some(Simplex { shape: Shape::Edge(a, c) })
+        Some(Simplex {
+            shape: Shape::Edge(a, c),
+        })
     } else if v == c {
-        Some(Simplex { shape: Shape::Edge(a, b) })
+        Some(Simplex {
+            shape: Shape::Edge(a, b),
+        })
     } else {
-        Some(Simplex { shape: Shape::Triangle(a, b, c) })
+        Some(Simplex {
+            shape: Shape::Triangle(a, b, c),
+        })
     }
 }
 
@@ -101,45 +113,79 @@ fn tetrahedron_without(a: u16, b: u16, c: u16, d: u16, v: u16) -> Option<Simplex
     ensures { λ r. ⌜ vertices-or-none r ≡ less v (a ∷ (b ∷ (c ∷ (d ∷ [])))) ⌝ }
 {
     if v == a {
-        Some(Simplex { shape: Shape::Triangle(b, c, d) })
+        Some(Simplex {
+            shape: Shape::Triangle(b, c, d),
+        })
     } else if v == b {
-        Some(Simplex { shape: Shape::Triangle(a, c, d) })
+        Some(Simplex {
+            shape: Shape::Triangle(a, c, d),
+        })
     } else if v == c {
-        Some(Simplex { shape: Shape::Triangle(a, b, d) })
+        Some(Simplex {
+            shape: Shape::Triangle(a, b, d),
+        })
     } else if v == d {
-        Some(Simplex { shape: Shape::Triangle(a, b, c) })
+        Some(Simplex {
+            shape: Shape::Triangle(a, b, c),
+        })
     } else {
-        Some(Simplex { shape: Shape::Tetrahedron(a, b, c, d) })
+        Some(Simplex {
+            shape: Shape::Tetrahedron(a, b, c, d),
+        })
     }
 }
 
 fn edge_of(a: u16, b: u16) -> Option<Simplex>
     ensures { λ r. ⌜ found r ≡ checked (a ∷ (b ∷ [])) ⌝ }
 {
-    if a < b { Some(Simplex { shape: Shape::Edge(a, b) }) } else { None }
+    if a < b {
+        Some(Simplex {
+            shape: Shape::Edge(a, b),
+        })
+    } else {
+        None
+    }
 }
 
 fn triangle_of(a: u16, b: u16, c: u16) -> Option<Simplex>
     ensures { λ r. ⌜ found r ≡ checked (a ∷ (b ∷ (c ∷ []))) ⌝ }
 {
-    if a < b && b < c { Some(Simplex { shape: Shape::Triangle(a, b, c) }) } else { None }
+    if a < b && b < c {
+        Some(Simplex {
+            shape: Shape::Triangle(a, b, c),
+        })
+    } else {
+        None
+    }
 }
 
 fn tetrahedron_of(a: u16, b: u16, c: u16, d: u16) -> Option<Simplex>
     ensures { λ r. ⌜ found r ≡ checked (a ∷ (b ∷ (c ∷ (d ∷ [])))) ⌝ }
 {
-    if a < b && b < c && c < d { Some(Simplex { shape: Shape::Tetrahedron(a, b, c, d) }) } else { None }
+    if a < b && b < c && c < d {
+        Some(Simplex {
+            shape: Shape::Tetrahedron(a, b, c, d),
+        })
+    } else {
+        None
+    }
 }
 
 fn point_with(a: u16, v: u16) -> Option<Simplex>
     ensures { λ r. ⌜ found r ≡ fitted (plus v (a ∷ [])) ⌝ }
 {
     if v < a {
-        Some(Simplex { shape: Shape::Edge(v, a) })
+        Some(Simplex {
+            shape: Shape::Edge(v, a),
+        })
     } else if v == a {
-        Some(Simplex { shape: Shape::Point(a) })
+        Some(Simplex {
+            shape: Shape::Point(a),
+        })
     } else {
-        Some(Simplex { shape: Shape::Edge(a, v) })
+        Some(Simplex {
+            shape: Shape::Edge(a, v),
+        })
     }
 }
 
@@ -148,13 +194,21 @@ fn edge_with(a: u16, b: u16, v: u16) -> Option<Simplex>
     ensures { λ r. ⌜ found r ≡ fitted (plus v (a ∷ (b ∷ []))) ⌝ }
 {
     if v < a {
-        Some(Simplex { shape: Shape::Triangle(v, a, b) })
+        Some(Simplex {
+            shape: Shape::Triangle(v, a, b),
+        })
     } else if v == a || v == b {
-        Some(Simplex { shape: Shape::Edge(a, b) })
+        Some(Simplex {
+            shape: Shape::Edge(a, b),
+        })
     } else if v < b {
-        Some(Simplex { shape: Shape::Triangle(a, v, b) })
+        Some(Simplex {
+            shape: Shape::Triangle(a, v, b),
+        })
     } else {
-        Some(Simplex { shape: Shape::Triangle(a, b, v) })
+        Some(Simplex {
+            shape: Shape::Triangle(a, b, v),
+        })
     }
 }
 
@@ -163,14 +217,24 @@ fn triangle_with(a: u16, b: u16, c: u16, v: u16) -> Option<Simplex>
     ensures { λ r. ⌜ found r ≡ fitted (plus v (a ∷ (b ∷ (c ∷ [])))) ⌝ }
 {
     if v < a {
-        Some(Simplex { shape: Shape::Tetrahedron(v, a, b, c) })
+        Some(Simplex {
+            shape: Shape::Tetrahedron(v, a, b, c),
+        })
     } else if v == a || v == b || v == c {
-        Some(Simplex { shape: Shape::Triangle(a, b, c) })
+        Some(Simplex {
+            shape: Shape::Triangle(a, b, c),
+        })
     } else if v < b {
-        Some(Simplex { shape: Shape::Tetrahedron(a, v, b, c) })
+        Some(Simplex {
+            shape: Shape::Tetrahedron(a, v, b, c),
+        })
     } else if v < c {
-        Some(Simplex { shape: Shape::Tetrahedron(a, b, v, c) })
+        Some(Simplex {
+            shape: Shape::Tetrahedron(a, b, v, c),
+        })
     } else {
-        Some(Simplex { shape: Shape::Tetrahedron(a, b, c, v) })
+        Some(Simplex {
+            shape: Shape::Tetrahedron(a, b, c, v),
+        })
     }
 }

@@ -13,7 +13,9 @@ pub impl Order for Simplex as SimplexOrder {
         match (self.shape, other.shape) {
             (Shape::Point(a), Shape::Point(e)) => a.cmp(&e),
             (Shape::Edge(a, b), Shape::Edge(e, f)) => b.cmp(&f).then(a.cmp(&e)),
-            (Shape::Triangle(a, b, c), Shape::Triangle(e, f, g)) => c.cmp(&g).then(b.cmp(&f)).then(a.cmp(&e)),
+            (Shape::Triangle(a, b, c), Shape::Triangle(e, f, g)) => c.cmp(&g)
+                .then(b.cmp(&f))
+                .then(a.cmp(&e)),
             (Shape::Tetrahedron(a, b, c, d), Shape::Tetrahedron(e, f, g, h)) => {
                 d.cmp(&h).then(c.cmp(&g)).then(b.cmp(&f)).then(a.cmp(&e))
             }

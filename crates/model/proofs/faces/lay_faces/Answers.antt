@@ -19,6 +19,7 @@ loop-i-again g c =
     let start = g .S·Store .contents (c .args .store .now) in
     let now = g .S·Store .contents (c .loop-i .store) in
     let then = g .S·Store .contents (c .lay-face .last .store) in
-    let fs = faces (vertices (c .args .s .now)) in
-    ( changed-on lay-one start now then fs (c .loop-i .i) (c .loop-i .inv .0) (c .lay-face .ensures)
-    , room-goes-on now then fs (c .loop-i .i) (g .S·Store .stored (c .loop-i .store) .sorted) (c .lay-face .ensures) (c .loop-i .inv .1) )
+    let fs = faces (vertices (c .args .s .now)) in (
+      changed-on lay-one start now then fs (c .loop-i .i) (c .loop-i .inv .0) (c .lay-face .ensures),
+      room-goes-on now then fs (c .loop-i .i) (g .S·Store .stored (c .loop-i .store) .sorted) (c .lay-face .ensures) (c .loop-i .inv .1),
+    )

@@ -12,4 +12,4 @@ returns-in-Some-of g c =
     let s = vertices (c .in-Some-of .simplex) in
     let known = known-part (c .in-Some .part .number) (c .args .part) (c .in-Some .ensures tt) in
     marks before then (c .args .part) s (c .args .vertices .now) (c .apply .result) (c .if-part-eq0 .left) (known .1) (g .K·Holder .stored (c .args .self .now .holder)) (g .K·Holder .legal (c .args .self .now .holder)) (g .K·Holder .legal (c .apply .last .self)) (c .in-Some-of .ensures tt)
-      (c .apply .ensures .value ∙ ap (λ p. mark-simplex before p s) (known .0)) (c .apply .ensures .after ∙ ap (λ p. marked-simplex before p s) (known .0))
+    (c .apply .ensures .value ∙ ap (λ p. mark-simplex before p s) (known .0)) (c .apply .ensures .after ∙ ap (λ p. marked-simplex before p s) (known .0))

@@ -1,0 +1,18 @@
+-- The records before a place did not merge the vertex.
+use mathlib.Core.Path.{_≡_}
+use Prim.Native.Nat.{_-_, _≤_}
+use lib.ListN.{drop}
+use Rattle.trail.specs.Notes.{bytes-of}
+use Rattle.trail.specs.Decoding.{notes-of}
+use Rattle.trail.specs.Past.{settled, past}
+use Rattle.trail.specs.Questions.{merged}
+use Rattle.trail.proofs.trail.Trail.merged.Given as given
+
+abbrev pub Inv-loop-at : given.InvT-loop-at
+Inv-loop-at l =
+    (l .at ≤ l .self .used)
+    × (bytes-of (notes-of (drop (l .at) (settled (l .self)))) ≡ drop (l .at) (settled (l .self)))
+    × (merged (notes-of (drop (l .at) (settled (l .self)))) (l .w) ≡ merged (past (l .self)) (l .w))
+
+abbrev pub μ-loop-at : given.MeasureT-loop-at
+μ-loop-at l = l .self .used - l .at
