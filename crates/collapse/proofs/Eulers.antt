@@ -184,7 +184,7 @@ module _ (u v : ℕ) (n : u ≡ v → ⊥) (s : List ℕ) (base : Base u v s) (M
   over-else = triple-other M sorted (plus u s) (plus v s) (plus u (plus v s)) (u-is-not-v u v n s base) (u-is-not-both u v n s base) (v-is-not-both u v n s base) a b c
 
   -- what lies over another base stays
-  over-other : (q : List ℕ) → (rest u v q ≡ s → ⊥) → mask (over u v M s a b c) q ≡ mask M q
+  pub over-other : (q : List ℕ) → (rest u v q ≡ s → ⊥) → mask (over u v M s a b c) q ≡ mask M q
   over-other q h = over-else q (λ e. h (ap (rest u v) e ∙ rest-of-u u v n s base)) (λ e. h (ap (rest u v) e ∙ rest-of-v u v n s base)) (λ e. h (ap (rest u v) e ∙ rest-of-both u v n s base))
 
   -- what has neither vertex stays
@@ -200,7 +200,7 @@ module _ (u v : ℕ) (n : u ≡ v → ⊥) (s : List ℕ) (base : Base u v s) (M
       over-else q (λ e. h (rw e (plus-rising u s (base .rising)))) (λ e. h (rw e (plus-rising v s (base .rising))))
       (λ e. h (rw e (plus-rising u (plus v s) (plus-rising v s (base .rising)))))
 
-  over-total : (w : List ℕ → ℕ → ℕ) → ((k : List ℕ) → w k 0 ≡ 0) →
+  pub over-total : (w : List ℕ → ℕ → ℕ) → ((k : List ℕ) → w k 0 ≡ 0) →
       total w (over u v M s a b c) + w (plus u s) (mask M (plus u s)) + w (plus v s) (mask M (plus v s)) + w (plus u (plus v s)) (mask M (plus u (plus v s)))
       ≡ total w M + w (plus u s) a + w (plus v s) b + w (plus u (plus v s)) c
   over-total = triple-total M sorted (plus u s) (plus v s) (plus u (plus v s)) (u-is-not-v u v n s base) (u-is-not-both u v n s base) (v-is-not-both u v n s base) a b c

@@ -88,7 +88,7 @@ abbrev pub Listed : Record (List ℕ) ℕ → Model → Type 0
 Listed r [] = ⊥
 Listed r (x ∷ xs) = (r ≡ x) ⊎ Listed r xs
 
-before-listed : (k : List ℕ) (r : Record (List ℕ) ℕ) (xs : Model) → before colex k xs ≡ true → Listed r xs → colex k (r .key) ≡ Less
+pub before-listed : (k : List ℕ) (r : Record (List ℕ) ℕ) (xs : Model) → before colex k xs ≡ true → Listed r xs → colex k (r .key) ≡ Less
 before-listed k r [] b l = absurd l
 before-listed k r (x ∷ xs) b (inl e) = ap (λ y. colex k (y .key)) e ∙ is-less _ (and-parts _ _ b .0)
 before-listed k r (x ∷ xs) b (inr l) = before-listed k r xs (and-parts _ _ b .1) l

@@ -28,7 +28,7 @@ plus-adds-one-at-most : (u : ℕ) (s : List ℕ) → length (plus u s) ≤ suc (
 plus-adds-one-at-most u [] = omega arith
 plus-adds-one-at-most u (x ∷ s) = let i = plus-adds-one-at-most u s in grind (arith, tells)
 
-length-image : (u v : ℕ) (s : List ℕ) → 0 < length s → (0 < length (image u v s)) × (length (image u v s) ≤ length s)
+pub length-image : (u v : ℕ) (s : List ℕ) → 0 < length s → (0 < length (image u v s)) × (length (image u v s) ≤ length s)
 length-image u v s h =
     let a = plus-some u (less v s) in
     let b = plus-adds-one-at-most u (less v s) in

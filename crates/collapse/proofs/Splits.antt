@@ -109,7 +109,7 @@ bases-from u v (r ∷ rs) f = go (bases-from u v rs (λ x l. f x (inr l))) (has 
     go more true e = (f r (inl refl) e, more)
     go more false e = more
 
-listed-base : (u : ℕ) (r : Record (List ℕ) ℕ) (rows : Model) → has u (r .key) ≡ true → Listed r rows → Member (less u (r .key)) (bases u rows)
+pub listed-base : (u : ℕ) (r : Record (List ℕ) ℕ) (rows : Model) → has u (r .key) ≡ true → Listed r rows → Member (less u (r .key)) (bases u rows)
 listed-base u r [] h l = absurd l
 listed-base u r (x ∷ xs) h l = go (listed-base u r xs h) (has u (x .key)) refl l
   where
