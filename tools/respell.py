@@ -13,7 +13,7 @@ import re
 import sys
 
 NAME = r"[A-Za-z][A-Za-z0-9_'≢≡≤<∙₁₂-]*"
-DEFINED = re.compile(r"^\s*(?:(?:abbrev|data|record|ruleset|opaque|unfoldable) )*(?:pub )?(" + NAME + r")\s*(?=[:({])(?!.*:\s*goal\.)")
+DEFINED = re.compile(r"^\s*(?:pub )?(?:(?:abbrev|data|record|ruleset|opaque|unfoldable) )*(?:pub )?(" + NAME + r")\s*(?=[:({])(?!.*:\s*goal\.)")
 LOCAL = re.compile(r"let (" + NAME + r") *[:=]")
 PARAMETERS = re.compile(r"[({]((?:" + NAME + r" )+): ")
 FOREIGN = re.compile(r"use (?:Rattle\.std|lib|native|Prim|mathlib)[^{\n]*\{([^}]*)\}")

@@ -1,4 +1,6 @@
 // The same calls over the table store and the grid store, with the same answers.
+#![tactic(auto)]
+
 #[cfg(test)]
 mod tests {
     use grid_store::store::GridStore;

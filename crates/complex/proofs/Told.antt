@@ -5,7 +5,7 @@ use Rattle.std.proofs.lemmas.Bool.{cond-true, lt-ltb}
 use Rattle.order.specs.Assoc.{by, lookup}
 use Rattle.order.proofs.Maps.{lookup_put, same_lookups}
 use Rattle.order.proofs.Ranks.{self_same}
-use Rattle.complex.specs.Laws.{Order-as-told, Write-changes-one, MasksTellModels, Faces-are-subsets}
+use Rattle.complex.specs.Laws.{OrderAsTold, WriteChangesOne, MasksTellModels, FacesAreSubsets}
 use Rattle.complex.specs.Model.{Model, mask, Legal}
 use Rattle.complex.specs.Simplex.{colex}
 use Rattle.complex.proofs.Faces.{listed_is_face, face_is_listed}
@@ -25,7 +25,7 @@ last_decides [] (y ∷ ys) zs a b e h = absurd (omega arith)
 last_decides (x ∷ xs) [] zs a b e h = absurd (omega arith)
 last_decides (x ∷ xs) (y ∷ ys) zs a b e h = ap (λ o. ordering_then o (nat_cmp x y)) (last_decides xs ys zs a b (omega arith) h)
 
-pub order_told : Order-as-told
+pub order_told : OrderAsTold
 order_told = record { fewer = fewer_first; last = last_decides; lawful = colex_lawful; exact = colex_exact }
 
 by_apart : (o : Ordering) (m n : ℕ) → (o ≡ Equal → ⊥) → by o m n m ≡ m
@@ -33,7 +33,7 @@ by_apart Less m n h = refl
 by_apart Equal m n h = absurd (h refl)
 by_apart Greater m n h = refl
 
-pub writes_change_one : Write-changes-one
+pub writes_change_one : WriteChangesOne
 writes_change_one = record {
   there = λ M s m u. mask_write M s s m u ∙ ap (λ o. by o (mask M s) m (mask M s)) (self_same colex colex_lawful s);
   removed = λ M s u. lookup_put colex colex_lawful colex_exact M s s None u ∙ ap (λ o. by o (lookup colex s M) None (lookup colex s M)) (self_same colex colex_lawful s);
@@ -51,7 +51,7 @@ value_told (Some m) (Some n) f g e = ap Some e
 pub masks_tell : MasksTellModels
 masks_tell M N u v f g e = same_lookups colex colex_lawful colex_exact M N u v (λ q. value_told (lookup colex q M) (lookup colex q N) (f q) (g q) (e q))
 
-pub faces_told : Faces-are-subsets
+pub faces_told : FacesAreSubsets
 faces_told = record { listed = face_is_listed; face = listed_is_face }
 
 -- a model that holds nothing is legal

@@ -1,16 +1,18 @@
 // The mathematics of models: each function stands for the theorem that its contract names.
-ghost use Rattle.complex.specs.Laws.{Order-as-told, Write-changes-one, MasksTellModels, Faces-are-subsets};
+#![tactic(auto)]
+
+ghost use Rattle.complex.specs.Laws.{OrderAsTold, WriteChangesOne, MasksTellModels, FacesAreSubsets};
 
 // The order of simplexes is the one told, and a lawful order.
 pub fn order_as_told() -> u8
-    ensures { Order-as-told }
+    ensures { OrderAsTold }
 {
     0
 }
 
 // A write changes one simplex.
 pub fn write_changes_one() -> u8
-    ensures { Write-changes-one }
+    ensures { WriteChangesOne }
 {
     0
 }
@@ -24,7 +26,7 @@ pub fn masks_tell_models() -> u8
 
 // The faces of a simplex are its non-empty subsets.
 pub fn faces_are_subsets() -> u8
-    ensures { Faces-are-subsets }
+    ensures { FacesAreSubsets }
 {
     0
 }

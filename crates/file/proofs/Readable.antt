@@ -9,7 +9,7 @@ use Rattle.file.specs.declared.flaw.Flaw.{Flaw}
 use Rattle.file.specs.Entry.{Content, section_count}
 use Rattle.file.specs.Numbers.{pairs}
 use Rattle.file.specs.Outcome.{Outcome, cut_off, first_counted, first_entry, site_at, onward, entries, sections}
-use Rattle.file.specs.Format.{vertices_written, entry_written, sections_written, Entry-fits, SectionsFit, Bytes, Unflawed, ReadsOnlyFiles}
+use Rattle.file.specs.Format.{vertices_written, entry_written, sections_written, EntryFits, SectionsFit, Bytes, Unflawed, ReadsOnlyFiles}
 
 -- an even number of bytes are the vertices that they make
 written_pairs : (bs : List ℕ) (k : ℕ) → Bytes bs → length bs ≡ 2 * k → vertices_written (pairs bs) ≡ bs
@@ -62,7 +62,7 @@ cut_off_front s bs k small ok = go (leb (2 * k) (length bs)) refl
 -- an entry at the front of the bytes of section s, and the bytes after it
 record EntryFront (s : ℕ) (bs rest : List ℕ) : Type 0 where
   vs : List ℕ
-  fits : Entry-fits s vs
+  fits : EntryFits s vs
   whole : entry_written s vs ++ rest ≡ bs
 
 counted_front : (s : ℕ) (bs : List ℕ) → leb s 4 ≡ false → Bytes bs → IsOk (first_counted s bs) → EntryFront s bs (after (first_counted s bs))
@@ -104,7 +104,7 @@ record EntriesFront (s n : ℕ) (go : List ℕ → List Outcome) (bs : List ℕ)
   es : List (List ℕ)
   rest : List ℕ
   many : length es ≡ n
-  fit : All (Entry-fits s) es
+  fit : All (EntryFits s) es
   whole : flat_map (entry_written s) es ++ rest ≡ bs
   small : Bytes rest
   sound : Unflawed (go rest)

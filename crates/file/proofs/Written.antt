@@ -7,7 +7,7 @@ use Rattle.std.proofs.lemmas.Bool.{le-leb, leb-true, cond-true, cond-false, and_
 use Rattle.file.specs.Entry.{in_section, section_count}
 use Rattle.file.specs.Numbers.{pairs}
 use Rattle.file.specs.Outcome.{Outcome, found, cut_off, first_entry, onward, entries, sections}
-use Rattle.file.specs.Format.{two_bytes, vertices_written, entry_written, section_written, sections_written, bytes_of, Entry-fits, SectionsFit, Bytes, entries_placed, sections_placed, ReadsWhatIsWritten, ReadsVertices}
+use Rattle.file.specs.Format.{two_bytes, vertices_written, entry_written, section_written, sections_written, bytes_of, EntryFits, SectionsFit, Bytes, entries_placed, sections_placed, ReadsWhatIsWritten, ReadsVertices}
 
 pairs_written : (vs : List ℕ) → pairs (vertices_written vs) ≡ vs
 pairs_written [] = refl
@@ -33,7 +33,7 @@ cut_off_written s vs rest n is =
     cond-true _ _ _ (le-leb n (length (vertices_written vs ++ rest)) fits) ∙ (λ d. Ok (in_section s (t d), r d))
 
 -- an entry that was written is the first that is read
-first_written : (s : ℕ) (vs rest : List ℕ) → Entry-fits s vs → first_entry s (entry_written s vs ++ rest) ≡ Ok (in_section s (vertices_written vs), rest)
+first_written : (s : ℕ) (vs rest : List ℕ) → EntryFits s vs → first_entry s (entry_written s vs ++ rest) ≡ Ok (in_section s (vertices_written vs), rest)
 first_written s vs rest fits = go (leb s 4) refl
   where
     go : (b : Bool) → leb s 4 ≡ b → first_entry s (entry_written s vs ++ rest) ≡ Ok (in_section s (vertices_written vs), rest)
@@ -46,7 +46,7 @@ first_written s vs rest fits = go (leb s 4) refl
         ap (λ l. first_entry s (l ++ rest)) w ∙ cond-false _ _ _ e ∙ cond-true _ _ _ (and_from _ _ (le-leb 1 (length vs) (omega arith)) (le-leb (length vs) 4 (omega arith))) ∙ cut_off_written s vs rest (2 * length vs) refl
 
 -- the entries that were written are read, and then what comes after them
-entries_read : (size s i p : ℕ) (go : List ℕ → List Outcome) (es : List (List ℕ)) (rest : List ℕ) → All (Entry-fits s) es → p + length (flat_map (entry_written s) es ++ rest) ≡ size → entries size s (length es) i go (flat_map (entry_written s) es ++ rest) ≡ entries_placed s i p es ++ go rest
+entries_read : (size s i p : ℕ) (go : List ℕ → List Outcome) (es : List (List ℕ)) (rest : List ℕ) → All (EntryFits s) es → p + length (flat_map (entry_written s) es ++ rest) ≡ size → entries size s (length es) i go (flat_map (entry_written s) es ++ rest) ≡ entries_placed s i p es ++ go rest
 entries_read size s i p go [] rest fits at = refl
 entries_read size s i p go (vs ∷ es) rest fits at =
     let split = append_assoc (entry_written s vs) (flat_map (entry_written s) es) rest in
@@ -78,7 +78,7 @@ vertices_are_bytes : (vs : List ℕ) → All (λ v. v < 65536) vs → Bytes (ver
 vertices_are_bytes [] h = tt
 vertices_are_bytes (v ∷ vs) h = All-append _ (two_bytes v) (vertices_written vs) (two_are_bytes v h.0) (vertices_are_bytes vs h.1)
 
-entries_are_bytes : (s : ℕ) (es : List (List ℕ)) → All (Entry-fits s) es → Bytes (flat_map (entry_written s) es)
+entries_are_bytes : (s : ℕ) (es : List (List ℕ)) → All (EntryFits s) es → Bytes (flat_map (entry_written s) es)
 entries_are_bytes s [] h = tt
 entries_are_bytes s (vs ∷ es) h = All-append _ (entry_written s vs) (flat_map (entry_written s) es) (go (leb s 4)) (entries_are_bytes s es h.1)
   where

@@ -31,7 +31,7 @@ abbrev pub bytes_of : List (List (List ℕ)) → List ℕ
 bytes_of file = sections_written 1 file
 
 -- an entry of sections 1 to 4 has 4, 3, 2, 1 vertices, one of a part has one to four; a vertex has sixteen bits
-pub record Entry-fits (s : ℕ) (vs : List ℕ) : Type 0 where
+pub record EntryFits (s : ℕ) (vs : List ℕ) : Type 0 where
   pub plain : s ≤ 4 → length vs ≡ 5 - s
   pub low : 1 ≤ length vs
   pub high : length vs ≤ 4
@@ -40,7 +40,7 @@ pub record Entry-fits (s : ℕ) (vs : List ℕ) : Type 0 where
 -- the entries of each section fit it, and their count has sixteen bits
 abbrev pub SectionsFit : ℕ → List (List (List ℕ)) → Type 0
 SectionsFit s [] = Unit {0}
-SectionsFit s (es ∷ more) = (length es < 65536) × All (Entry-fits s) es × SectionsFit (s + 1) more
+SectionsFit s (es ∷ more) = (length es < 65536) × All (EntryFits s) es × SectionsFit (s + 1) more
 
 -- a file has all its sections, and each entry fits its own
 abbrev pub Fits : List (List (List ℕ)) → Type 0

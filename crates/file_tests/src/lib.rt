@@ -1,4 +1,6 @@
 // Examples of reading a model file.
+#![tactic(auto)]
+
 #[cfg(test)]
 mod tests {
     use file::reader::Reader;

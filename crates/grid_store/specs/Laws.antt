@@ -10,7 +10,7 @@ pub record InGrid (s : List ℕ) : Type 0 where
   pub ranged : below vertex_range s ≡ true
 
 -- the places number the simplexes in range, one to one and in their order
-pub record Places-number-simplexes : Type 0 where
+pub record PlacesNumberSimplexes : Type 0 where
   pub inside : (s : List ℕ) → InGrid s → place s < places
   pub ordered : (s t : List ℕ) → InGrid s → InGrid t → colex s t ≡ nat_cmp (place s) (place t)
   pub apart : (s t : List ℕ) → InGrid s → InGrid t → place s ≡ place t → s ≡ t

@@ -2,7 +2,7 @@
 ghost use Rattle.std.specs.Prelude.{◌≡◌, ◌<◌, ◌≤◌, true, Some};
 ghost use Rattle.complex.specs.Simplex.{below};
 ghost use Rattle.simplex.specs.Simplexes.{vertices, found};
-ghost use Rattle.grid_store.specs.Laws.{Places-number-simplexes};
+ghost use Rattle.grid_store.specs.Laws.{PlacesNumberSimplexes};
 ghost use Rattle.grid_store.specs.Places.{vertex_range, places, term, first_place, place, past, size_at, largest, simplex_at};
 
 use simplex::shape::Shape;
@@ -126,7 +126,7 @@ pub(crate) fn simplex_at(p: usize) -> Option<Simplex>
 
 // The places number the simplexes in range, one to one and in their order.
 pub fn places_number_simplexes() -> u8
-    ensures { Places-number-simplexes }
+    ensures { PlacesNumberSimplexes }
 {
     0
 }

@@ -1,4 +1,6 @@
 // Runs of the grid store.
+#![tactic(auto)]
+
 #[cfg(test)]
 mod tests {
     use grid_store::store::GridStore;

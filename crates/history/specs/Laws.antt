@@ -34,6 +34,6 @@ abbrev pub AcceptedStands : Type 0
 AcceptedStands = (u v : ℕ) (c : Contents) (ns : List Note) → Stored c → Sound c ns → Collapsible u v c.model → Standing u v c ns
 
 -- the records trace a vertex as the standing list does; a vertex was in the first model where it is in this one or was merged
-pub record Records-trace : Type 0 where
+pub record RecordsTrace : Type 0 where
   pub alike : (ns : List Note) (w : ℕ) → traced ns w ≡ along (standing ns) w
   pub first_vertex : (ns : List Note) (c : Contents) → Stored c → Sound c ns → (w : ℕ) → (mask (first c ns) (w ∷ []) == 0) ≡ (mask c.model (w ∷ []) == 0 && not (merged ns w))

@@ -1,5 +1,7 @@
 // The mathematics of standing collapses: each function stands for the theorem that its contract names.
-ghost use Rattle.history.specs.Laws.{SoundKeepsPromise, AcceptedStands, Records-trace};
+#![tactic(auto)]
+
+ghost use Rattle.history.specs.Laws.{SoundKeepsPromise, AcceptedStands, RecordsTrace};
 
 // A sound model keeps the whole promise against its first model.
 pub fn sound_keeps_promise() -> u8
@@ -17,7 +19,7 @@ pub fn accepted_stands() -> u8
 
 // The records trace a vertex as the standing list does, and tell which vertices the first model had.
 pub fn records_trace() -> u8
-    ensures { Records-trace }
+    ensures { RecordsTrace }
 {
     0
 }

@@ -1,3 +1,5 @@
 // For each kind of store, the store with the fact that its model is legal.
+#![tactic(auto)]
+
 pub mod grid;
 pub mod table;

@@ -1,4 +1,6 @@
 // Loads into drafts over the table store: what is held afterwards, and every refusal with its site.
+#![tactic(auto)]
+
 #[cfg(test)]
 mod tests {
     use file::load::load;

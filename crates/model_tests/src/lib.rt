@@ -1,4 +1,6 @@
 // Runs of drafts and working models over the table store.
+#![tactic(auto)]
+
 #[cfg(test)]
 mod tests {
     use holders::table::TableHolder;

@@ -1,2 +1,1 @@
 pub mod Assoc
-pub mod Chain

@@ -1,3 +1,5 @@
 // Simplexes: one to four vertices in strictly rising order.
+#![tactic(auto)]
+
 pub mod shape;
 pub mod simplex;

@@ -1,3 +1,5 @@
 // The store level: what a store of simplexes means, whatever holds it.
+#![tactic(auto)]
+
 pub mod meaning;
 pub mod refusal;

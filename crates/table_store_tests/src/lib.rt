@@ -1,4 +1,6 @@
 // Runs of the table store.
+#![tactic(auto)]
+
 #[cfg(test)]
 mod tests {
     use order::keys::Order;

@@ -1,4 +1,6 @@
 // Runs of the ordered table on vertices.
+#![tactic(auto)]
+
 #[cfg(test)]
 mod tests {
     use order::record::Record;

@@ -5,7 +5,7 @@ use Rattle.std.proofs.lemmas.List.{append_assoc, take_at, drop_at}
 use Rattle.std.proofs.ByRecursion.{All-append}
 use Rattle.trail.specs.Notes.{Note, note, two_bytes, masks, bytes_of_note, bytes_of, room_of, room_used}
 use Rattle.trail.specs.Decoding.{word, pairs_of, note_of, last_start, last_notes, notes_of}
-use Rattle.trail.specs.Law.{Byte, MasksFit, Note-fits, NotesComeBack}
+use Rattle.trail.specs.Law.{Byte, MasksFit, NoteFits, NotesComeBack}
 
 pub length_masks : (ps : List (ℕ × ℕ)) → length (masks ps) ≡ 2 * length ps
 length_masks [] = refl
@@ -92,7 +92,7 @@ masks_are_bytes : (ps : List (ℕ × ℕ)) → All MasksFit ps → All Byte (mas
 masks_are_bytes [] h = tt
 masks_are_bytes (p ∷ ps) h = (h.0.0, (h.0.1, masks_are_bytes ps h.1))
 
-note_is_bytes : (n : Note) → Note-fits n → All Byte (bytes_of_note n)
+note_is_bytes : (n : Note) → NoteFits n → All Byte (bytes_of_note n)
 note_is_bytes n h =
     let s = length n.pairs in
     let most = All-append Byte (masks n.pairs) (two_bytes s) (masks_are_bytes n.pairs h.narrow) (two_are_bytes s h.few) in
@@ -101,7 +101,7 @@ note_is_bytes n h =
     let c = two_are_bytes s h.few in
     (u.0, (u.1.0, (v.0, (v.1.0, (c.0, (c.1.0, most))))))
 
-notes_are_bytes : (ns : List Note) → All Note-fits ns → All Byte (bytes_of ns)
+notes_are_bytes : (ns : List Note) → All NoteFits ns → All Byte (bytes_of ns)
 notes_are_bytes [] h = tt
 notes_are_bytes (n ∷ ns) h = All-append Byte (bytes_of ns) (bytes_of_note n) (notes_are_bytes ns h.1) (note_is_bytes n h.0)
 

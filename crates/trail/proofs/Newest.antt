@@ -39,16 +39,16 @@ newest_is_read t h some u v s = go (past t) refl
         (λ d. Some (record { u = eu d; v = ev d; s = es d }))
 
 -- the newest note, where a head was read
-pub record Has-newest (t : Trail) (h : Head) : Type 0 where
+pub record HasNewest (t : Trail) (h : Head) : Type 0 where
   pub n : Note
   pub ns : List Note
   pub is : past t ≡ n ∷ ns
   pub s : length n.pairs ≡ h.s
 
-has_newest : (t : Trail) (h : Head) → Some h ≡ newest_head (past t) → Has-newest t h
+has_newest : (t : Trail) (h : Head) → Some h ≡ newest_head (past t) → HasNewest t h
 has_newest t h read = go (past t) refl
   where
-    go : (ns : List Note) → past t ≡ ns → Has-newest t h
+    go : (ns : List Note) → past t ≡ ns → HasNewest t h
     go [] is =
         let e : Some h ≡ None = read ∙ ap newest_head is in
         let z : ◌≡◌ {A = ℕ} 0 1 = cc in

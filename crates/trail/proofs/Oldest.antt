@@ -8,7 +8,7 @@ use Rattle.trail.specs.Past.{settled}
 use Rattle.trail.specs.Questions.{step, traced, merged}
 use Rattle.trail.specs.declared.trail.Trail.{Trail}
 use Rattle.trail.proofs.Decoded.{length_of_note}
-use Rattle.trail.proofs.Settled.{Head-at, head_words}
+use Rattle.trail.proofs.Settled.{HeadAt, head_words}
 
 bytes_of_older : (ns : List Note) (n : Note) → bytes_of (ns ++ (n ∷ [])) ≡ bytes_of_note n ++ bytes_of ns
 bytes_of_older [] n = sym (append-nil (bytes_of_note n))
@@ -41,7 +41,7 @@ pub record Oldest (t : Trail) (at : ℕ) : Type 0 where
   pub n : Note
   pub ns : List Note
   pub is : notes_of (drop at (settled t)) ≡ ns ++ (n ∷ [])
-  pub head : Head-at t.bytes at n
+  pub head : HeadAt t.bytes at n
   pub room : at + room_of n ≤ t.used
   pub next : drop (at + room_of n) (settled t) ≡ bytes_of ns
 

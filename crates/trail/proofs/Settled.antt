@@ -38,12 +38,12 @@ word_at bs at within =
     ap word one ∙ ap (λ l. word (get_or bs at 0 ∷ l)) two
 
 -- the words at the head of a record
-pub record Head-at (bs : List ℕ) (at : ℕ) (n : Note) : Type 0 where
+pub record HeadAt (bs : List ℕ) (at : ℕ) (n : Note) : Type 0 where
   pub u : word (drop at bs) ≡ n.u
   pub v : word (drop (at + 2) bs) ≡ n.v
   pub s : word (drop (at + 4) bs) ≡ length n.pairs
 
-pub head_words : (bs : List ℕ) (at : ℕ) (n : Note) (more : List ℕ) → drop at bs ≡ bytes_of_note n ++ more → Head-at bs at n
+pub head_words : (bs : List ℕ) (at : ℕ) (n : Note) (more : List ℕ) → drop at bs ≡ bytes_of_note n ++ more → HeadAt bs at n
 head_words bs at n more is = record {
   u = ap word is ∙ word_of_two n.u;
   v = ap word (sym (drop-drop 2 at bs) ∙ ap (drop 2) is) ∙ word_of_two n.v;

@@ -13,7 +13,7 @@ abbrev pub MasksFit : ℕ × ℕ → Type 0
 MasksFit p = Byte p.0 × Byte p.1
 
 -- the numbers have sixteen bits, the masks eight
-pub record Note-fits (n : Note) : Type 0 where
+pub record NoteFits (n : Note) : Type 0 where
   pub u : n.u < 65536
   pub v : n.v < 65536
   pub few : length n.pairs < 65536
@@ -21,4 +21,4 @@ pub record Note-fits (n : Note) : Type 0 where
 
 -- the records of notes are bytes, and the notes are read off them again
 abbrev pub NotesComeBack : Type 0
-NotesComeBack = (ns : List Note) → All Note-fits ns → All Byte (bytes_of ns) × (notes_of (bytes_of ns) ≡ ns)
+NotesComeBack = (ns : List Note) → All NoteFits ns → All Byte (bytes_of ns) × (notes_of (bytes_of ns) ≡ ns)

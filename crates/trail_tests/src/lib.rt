@@ -1,4 +1,6 @@
 // Examples of trails.
+#![tactic(auto)]
+
 #[cfg(test)]
 mod tests {
     use trail::trail::Trail;

@@ -1,9 +1,9 @@
-use mathlib.Core.Path.{sym, ap₂, subst}
+use mathlib.Core.Path.{sym, subst}
+use Rattle.complex.specs.Model.{Legal}
 use Rattle.complex.proofs.Told.{nothing_legal}
-use Rattle.history.specs.Sound.{Sound}
-use Rattle.history.specs.State.{State, state}
+use Rattle.store.specs.Contents.{Contents}
 use Rattle.holders.proofs.grid.GridHolder.over.Goals as goal
 
--- the emptied store holds a legal model, and no collapse was made yet
+-- the emptied store holds a legal model
 pub invariant-of-result : goal.invariant-of-result
-invariant-of-result c = (∣ subst (λ (s : State). Sound s.holds s.past) (sym (ap₂ state c.remove-all.ensures c.new.ensures)) nothing_legal ∣₁, tt)
+invariant-of-result c = (∣ subst (λ (d : Contents). Legal d.model) (sym c.remove-all.ensures) nothing_legal ∣₁, tt)

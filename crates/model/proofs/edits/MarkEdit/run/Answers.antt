@@ -1,0 +1,12 @@
+use Rattle.std.proofs.Common.{◌<◌, sym, ◌∙◌, rules}
+use Rattle.complex.specs.Model.{mask}
+use Rattle.simplex.specs.Simplexes.{vertices}
+use Rattle.model.specs.Changes.{faces_held}
+use Rattle.model.proofs.edits.MarkEdit.run.Goals as goal
+
+pub mark-faces-requires : goal.mark-faces-requires
+mark-faces-requires g c =
+    let before = g.row.S-Store.contents c.args.store.now in
+    let s = vertices c.args.self.now.simplex in
+    let held : 0 < mask before.model s = search rules in
+    record { range = search rules; held = faces_held before.model s c.requires held }
