@@ -32,7 +32,7 @@ returns-in-Err g c =
     let rows = take c.args.len c.args.rows.now in
     let sought : Sought rank k rows (Err at) = subst (λ xs. Sought rank k xs (Err at)) c.front.ensures.is c.in-Err.ensures in
     record {
-      rest = (omega arith, c.insert-at.ensures.rest);
+      rest = (omega arith, c.insert_at.ensures.rest);
       does = λ le up.
-          (or_right _ _ (lt-ltb _ _ c.if-len-rows.true), omega arith, c.insert-at.ensures.front ∙ inserted_is_put rank k rows at c.args.value (sought.1 up).0 (sought.1 up).1);
+          (or_right _ _ (lt-ltb _ _ c.if-len-rows.true), omega arith, c.insert_at.ensures.front ∙ inserted_is_put rank k rows at c.args.value (sought.1 up).0 (sought.1 up).1);
     }

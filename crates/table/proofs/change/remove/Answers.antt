@@ -5,8 +5,8 @@ use Rattle.table.specs.Places.{Sought}
 use Rattle.table.proofs.Changes.{take_own_length, drop_further, removed_is_put, unchanged_is_put}
 use Rattle.table.proofs.change.remove.Goals as goal
 
-pub close-gap-requires : goal.close-gap-requires
-close-gap-requires g c = record { within = c.in-Ok.ensures.0; room = c.front-used.ensures.within }
+pub close_gap-requires : goal.close_gap-requires
+close_gap-requires g c = record { within = c.in-Ok.ensures.0; room = c.front-used.ensures.within }
 
 pub returns-in-Ok : goal.returns-in-Ok
 returns-in-Ok g c =
@@ -20,8 +20,8 @@ returns-in-Ok g c =
     let sought : Sought rank k rows (Ok at) = subst (λ xs. Sought rank k xs (Ok at)) is c.in-Ok.ensures in
     let own = ap (λ xs. take (length xs) old) is ∙ take_own_length c.args.len old in
     record {
-      rest = drop_further (length used) c.args.len c.close-gap.new.rows old c.front-used.ensures.short c.close-gap.ensures.rest;
-      does = λ le up. (omega (arith, c.front-used.ensures.within), c.close-gap.ensures.front ∙ ap (λ xs. remove xs at) own ∙ removed_is_put rank k rows at (sought.1 up).0 (sought.1 up).1);
+      rest = drop_further (length used) c.args.len c.close_gap.new.rows old c.front-used.ensures.short c.close_gap.ensures.rest;
+      does = λ le up. (omega (arith, c.front-used.ensures.within), c.close_gap.ensures.front ∙ ap (λ xs. remove xs at) own ∙ removed_is_put rank k rows at (sought.1 up).0 (sought.1 up).1);
     }
 
 pub returns-in-Err : goal.returns-in-Err
