@@ -11,7 +11,7 @@ overwrite-requires-2 c = let kept = c.overwrite.auto.bytes in omega (arith, c.re
 
 pub returns : goal.returns
 returns c =
-    let hu = two_bytes_are c.args.u c.to-be-bytes.result (omega arith) c.to-be-bytes.ensures in
-    let hv = two_bytes_are c.args.v c.to-be-bytes-2.result (omega arith) c.to-be-bytes-2.ensures in
-    let hs = two_bytes_are c.args.s c.to-be-bytes-3.result (omega arith) c.to-be-bytes-3.ensures in
+    let hu = two_bytes_are c.args.u c.to_be_bytes.result (omega arith) c.to_be_bytes.ensures in
+    let hv = two_bytes_are c.args.v c.to_be_bytes-2.result (omega arith) c.to_be_bytes-2.ensures in
+    let hs = two_bytes_are c.args.s c.to_be_bytes-3.result (omega arith) c.to_be_bytes-3.ensures in
     record_enclosed c.args.bytes.now _ _ _ _ _ c.args.at c.args.u c.args.v c.args.s c.requires hu hv hs c.overwrite.ensures c.overwrite-2.ensures

@@ -11,13 +11,17 @@ enclose-requires c =
     let room = room_there c.args.self.now c.args.s (sym c.fits.ensures ∙ c.if-not-fits.false) in
     omega (arith, c.args.self.now.size)
 
-pub invariant-of-self : goal.invariant-of-self
-invariant-of-self c =
+pub invariant_of-self : goal.invariant_of-self
+invariant_of-self c =
     let t = c.args.self.now in
     let room = room_there t c.args.s (sym c.fits.ensures ∙ c.if-not-fits.false) in
-    let made = one_more_note t c.enclose.new.bytes c.args.u c.args.v c.args.s c.record-length-length.result c.record-length-length.ensures c.enclose.ensures in
-    (c.enclose.auto.bytes ∙ t.size, (omega (arith, c.record-length-length.ensures), (formed_of _ (note c.args.u c.args.v (pending t c.args.s) ∷ past t) made, tt)))
+    let made = one_more_note t c.enclose.new.bytes c.args.u c.args.v c.args.s c.record_length-length.result c.record_length-length.ensures c.enclose.ensures in
+    record {
+      size = c.enclose.auto.bytes ∙ t.size;
+      within = omega (arith, c.record_length-length.ensures);
+      formed = formed_of _ (note c.args.u c.args.v (pending t c.args.s) ∷ past t) made;
+    }
 
 pub returns : goal.returns
 returns c =
-    record_committed c.args.self.now _ c.args.u c.args.v c.args.s c.record-length-length.result (sym c.fits.ensures ∙ c.if-not-fits.false) c.record-length-length.ensures refl c.enclose.ensures
+    record_committed c.args.self.now _ c.args.u c.args.v c.args.s c.record_length-length.result (sym c.fits.ensures ∙ c.if-not-fits.false) c.record_length-length.ensures refl c.enclose.ensures

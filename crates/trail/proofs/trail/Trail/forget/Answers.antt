@@ -6,17 +6,17 @@ use Rattle.trail.proofs.Decoded.{formed_of, holds_of}
 use Rattle.trail.proofs.Newest.{newest_room, before_newest}
 use Rattle.trail.proofs.trail.Trail.forget.Goals as goal
 
-pub record-length-requires : goal.record-length-requires
-record-length-requires c = let room = newest_room c.args.self.now c.in-Some.head c.in-Some.ensures in omega (arith, c.args.self.now.within)
+pub record_length-requires : goal.record_length-requires
+record_length-requires c = let room = newest_room c.args.self.now c.in-Some.head c.in-Some.ensures in omega (arith, c.args.self.now.within)
 
-pub overflow-sub-self : goal.overflow-sub-self
-overflow-sub-self c = let room = newest_room c.args.self.now c.in-Some.head c.in-Some.ensures in omega (arith, c.record_length.ensures)
+pub overflow_sub-self : goal.overflow_sub-self
+overflow_sub-self c = let room = newest_room c.args.self.now c.in-Some.head c.in-Some.ensures in omega (arith, c.record_length.ensures)
 
-pub invariant-of-self : goal.invariant-of-self
-invariant-of-self c =
+pub invariant_of-self : goal.invariant_of-self
+invariant_of-self c =
     let t = c.args.self.now in
     let left = before_newest t c.in-Some.head c.record_length.result c.in-Some.ensures c.record_length.ensures in
-    (t.size, (omega (arith, t.within), (formed_of _ (earlier (past t)) left, tt)))
+    record { size = t.size; within = omega (arith, t.within); formed = formed_of _ (earlier (past t)) left }
 
 pub returns-in-Some : goal.returns-in-Some
 returns-in-Some c =

@@ -10,11 +10,11 @@ overwrite-requires c =
     let room = room_there c.args.self.now (c.args.i + 1) (sym c.fits.ensures ∙ c.if-not-fits.false) in
     omega (arith, c.args.self.now.size)
 
-pub invariant-of-self : goal.invariant-of-self
-invariant-of-self c =
+pub invariant_of-self : goal.invariant_of-self
+invariant_of-self c =
     let t = c.args.self.now in
     let kept = kept_before t c.overwrite.new.bytes c.args.i c.args.a c.args.b (sym c.fits.ensures ∙ c.if-not-fits.false) c.overwrite.ensures in
-    (c.overwrite.auto.bytes ∙ t.size, (t.within, (formed_of _ (past t) (kept ∙ sym t.formed), tt)))
+    record { size = c.overwrite.auto.bytes ∙ t.size; within = t.within; formed = formed_of _ (past t) (kept ∙ sym t.formed) }
 
 pub returns : goal.returns
 returns c =

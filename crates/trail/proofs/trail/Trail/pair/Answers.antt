@@ -6,14 +6,14 @@ use Rattle.trail.proofs.trail.Trail.pair.Goals as goal
 pub returns-then-i-head : goal.returns-then-i-head
 returns-then-i-head c = sym (no_pair c.args.self.now c.in-Some.head c.args.i c.in-Some.ensures c.if-i-head.true)
 
-pub overflow-sub-at : goal.overflow-sub-at
-overflow-sub-at c = let room = newest_room c.args.self.now c.in-Some.head c.in-Some.ensures in omega arith
+pub overflow_sub-at : goal.overflow_sub-at
+overflow_sub-at c = let room = newest_room c.args.self.now c.in-Some.head c.in-Some.ensures in omega arith
 
-pub overflow-mul-at : goal.overflow-mul-at
-overflow-mul-at c = let room = newest_room c.args.self.now c.in-Some.head c.in-Some.ensures in omega (arith, c.args.self.now.within)
+pub overflow_mul-at : goal.overflow_mul-at
+overflow_mul-at c = let room = newest_room c.args.self.now c.in-Some.head c.in-Some.ensures in omega (arith, c.args.self.now.within)
 
-pub overflow-sub-at-3 : goal.overflow-sub-at-3
-overflow-sub-at-3 c = let room = newest_room c.args.self.now c.in-Some.head c.in-Some.ensures in omega arith
+pub overflow_sub-at-3 : goal.overflow_sub-at-3
+overflow_sub-at-3 c = let room = newest_room c.args.self.now c.in-Some.head c.in-Some.ensures in omega arith
 
 pub returns : goal.returns
 returns c = pair_is_read c.args.self.now c.in-Some.head c.args.i c.in-Some.ensures c.if-i-head.false

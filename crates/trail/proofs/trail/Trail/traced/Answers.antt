@@ -9,28 +9,28 @@ use Rattle.trail.proofs.Oldest.{oldest_stands, onward, none_from, traced_older}
 use Rattle.trail.proofs.trail.Trail.traced.Goals as goal
 use Rattle.trail.proofs.trail.Trail.traced.Goals.{then-vertex-head, else-vertex-head}
 
-pub head-at-head-requires : goal.head-at-head-requires
-head-at-head-requires c =
+pub head_at-head-requires : goal.head_at-head-requires
+head_at-head-requires c =
     let o = oldest_stands c.args.self.now c.loop-at.at c.loop-at-test.true c.loop-at.invariant.1 in
     omega (arith, o.room, c.args.self.now.within)
 
-pub record-length-at-requires : goal.record-length-at-requires
-record-length-at-requires c =
+pub record_length-at-requires : goal.record_length-at-requires
+record_length-at-requires c =
     let o = oldest_stands c.args.self.now c.loop-at.at c.loop-at-test.true c.loop-at.invariant.1 in
-    omega (arith, o.room, c.head-at-head.ensures.s ∙ o.head.s, c.args.self.now.within)
+    omega (arith, o.room, c.head_at-head.ensures.s ∙ o.head.s, c.args.self.now.within)
 
-pub overflow-add-at : goal.overflow-add-at
-overflow-add-at c =
+pub overflow_add-at : goal.overflow_add-at
+overflow_add-at c =
     let o = oldest_stands c.args.self.now c.loop-at.at c.loop-at-test.true c.loop-at.invariant.1 in
-    omega (arith, o.room, c.head-at-head.ensures.s ∙ o.head.s, c.record-length-at.ensures, c.args.self.now.within)
+    omega (arith, o.room, c.head_at-head.ensures.s ∙ o.head.s, c.record_length-at.ensures, c.args.self.now.within)
 
 pub loop-at-preserved : goal.loop-at-preserved
 loop-at-preserved c =
     let t = c.args.self.now in
     let o = oldest_stands t c.loop-at.at c.loop-at-test.true c.loop-at.invariant.1 in
-    let long = c.record-length-at.ensures ∙ ap record_length (c.head-at-head.ensures.s ∙ o.head.s) in
-    let next = onward t c.loop-at.at o c.record-length-at.result long in
-    let read = c.head-at-head.ensures in
+    let long = c.record_length-at.ensures ∙ ap record_length (c.head_at-head.ensures.s ∙ o.head.s) in
+    let next = onward t c.loop-at.at o c.record_length-at.result long in
+    let read = c.head_at-head.ensures in
     let went : c.if-vertex-head.vertex ≡ step o.n c.loop-at.vertex =
     elim c.if-vertex-head.branch [
       | then-vertex-head w ↦ w.vertex-is ∙ read.u ∙ o.head.u ∙ sym (cond-true _ _ _ (eq-eqb _ _ (w.if-vertex-head.true ∙ read.v ∙ o.head.v)))
