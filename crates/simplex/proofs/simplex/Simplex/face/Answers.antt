@@ -5,4 +5,4 @@ use Rattle.simplex.specs.Simplexes.{nth}
 use Rattle.simplex.proofs.simplex.Simplex.face.Goals as goal
 
 pub returns-in-Tetrahedron : goal.returns-in-Tetrahedron
-returns-in-Tetrahedron c = c.tetrahedron-face.ensures ∙ ap (λ s. nth (faces (corners s)) c.args.i) (sym c.in-Tetrahedron.is)
+returns-in-Tetrahedron c = c.tetrahedron_face.ensures ∙ ap (λ s. nth (faces (corners s)) c.args.i) (sym c.in-Tetrahedron.is)

@@ -7,10 +7,10 @@ pub returns-in-len1 : goal.returns-in-len1
 returns-in-len1 c = ap checked (one_is c.args.list.now (search rules))
 
 pub returns-in-len2 : goal.returns-in-len2
-returns-in-len2 c = c.edge-of.ensures ∙ ap checked (two_are c.args.list.now (search rules))
+returns-in-len2 c = c.edge_of.ensures ∙ ap checked (two_are c.args.list.now (search rules))
 
 pub returns-in-len3 : goal.returns-in-len3
-returns-in-len3 c = c.triangle-of.ensures ∙ ap checked (three_are c.args.list.now (search rules))
+returns-in-len3 c = c.triangle_of.ensures ∙ ap checked (three_are c.args.list.now (search rules))
 
 pub returns-in-len4 : goal.returns-in-len4
-returns-in-len4 c = c.tetrahedron-of.ensures ∙ ap checked (four_are c.args.list.now (search rules))
+returns-in-len4 c = c.tetrahedron_of.ensures ∙ ap checked (four_are c.args.list.now (search rules))
