@@ -19,9 +19,12 @@ use Rattle.table_store.proofs.Entries.{lookup_entries, put_entries}
 use Rattle.table_store.proofs.Fits.{put_keeps_fits}
 
 -- the facts of a table store, of another table under the same limit
-abbrev pub Kept : TableStore → Table Simplex ℕ → Type 0
-Kept t new =
-    Good by_vertices new × ((new.len ≤ t.limit) × ((t.limit ≤ room new) × ((t.limit ≤ most_records) × ((fits vertex_range (entries (held new)) ≡ true) × Unit {0}))))
+pub record Kept (t : TableStore) (new : Table Simplex ℕ) : Type 0 where
+  pub good : Good by_vertices new
+  pub used : new.len ≤ t.limit
+  pub lent : t.limit ≤ room new
+  pub few : t.limit ≤ most_records
+  pub fit : fits vertex_range (entries (held new)) ≡ true
 
 -- new is the store's table with the value o at k
 pub record Changed (t : TableStore) (k : Simplex) (o : Option ℕ) (new : Table Simplex ℕ) : Type 0 where
@@ -56,7 +59,13 @@ module _ (t : TableStore) (k : Simplex) (new : Table Simplex ℕ) where
   changed_kept : (o : Option ℕ) → Changed t k o new → fits vertex_range (bind (vertices k) o []) ≡ true → t.table.len + there o ≤ t.limit + there found → Kept t new
   changed_kept o h fit roomy =
       let same = ap (fits vertex_range) (changed_model o h) in
-      (h.good, (omega (arith, changed_length o h), (omega (arith, h.lent, t.lent), (t.few, (same ∙ put_keeps_fits vertex_range (vertices k) o (contents t).model fit t.fit, tt)))))
+      record {
+        good = h.good;
+        used = omega (arith, changed_length o h);
+        lent = omega (arith, h.lent, t.lent);
+        few = t.few;
+        fit = same ∙ put_keeps_fits vertex_range (vertices k) o (contents t).model fit t.fit;
+      }
 
   pub changed_contents : (o : Option ℕ) (m : ℕ) → Changed t k o new → present m ≡ o →
       ◌≡◌ {A = Contents} (record { model = entries (held new); limit = t.limit; range = vertex_range }) (holding (contents t) (write (contents t).model (vertices k) m))

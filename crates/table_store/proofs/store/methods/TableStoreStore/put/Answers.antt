@@ -12,10 +12,11 @@ use Rattle.table_store.proofs.Puts.{removal_accepted, full_refused, put_accepted
 use Rattle.table_store.proofs.store.methods.TableStoreStore.put.Goals as goal
 use Rattle.table_store.proofs.store.methods.TableStoreStore.put.Goals.{After-put, else-look-eq0-via-then-look-eq0+else-self, else-look-eq0-via-else-look-eq0}
 
-pub invariant-of-self : goal.invariant-of-self
-invariant-of-self c =
+pub invariant_of-self : goal.invariant_of-self
+invariant_of-self c =
     let t = c.args.self.now in
-    removed_kept t c.args.s c.remove.new.self (removed_changed t c.args.s c.remove.new.self (c.remove.ensures.does t.good) c.remove.ensures.room)
+    let k = removed_kept t c.args.s c.remove.new.self (removed_changed t c.args.s c.remove.new.self (c.remove.ensures.does t.good) c.remove.ensures.room) in
+    record { good = k.good; used = k.used; lent = k.lent; few = k.few; fit = k.fit }
 
 pub returns-then-mask-eq0 : goal.returns-then-mask-eq0
 returns-then-mask-eq0 c =
@@ -63,8 +64,8 @@ kept c =
     let fit = one_fits vertex_range c.args.s c.args.mask (sym c.if-not-within.ensures) (omega (arith, c.if-mask-eq0.false)) (omega (arith, c.ranges.mask)) in
     put_kept c.args.self.now c.args.s c.put.new.self (free c) c.args.mask (changed c) fit
 
-pub invariant-of-self-2 : goal.invariant-of-self-2
-invariant-of-self-2 c = kept c
+pub invariant_of-self-2 : goal.invariant_of-self-2
+invariant_of-self-2 c = let k = kept c in record { good = k.good; used = k.used; lent = k.lent; few = k.few; fit = k.fit }
 
 pub returns : goal.returns
 returns c =
@@ -78,5 +79,5 @@ returns c =
       after = changed_contents t s new (Some c.args.mask) c.args.mask (changed p) (cond-false _ _ _ (ne_eqb _ 0 c.if-mask-eq0.false)) ∙ sym (accepted_next (contents t) (vertices s) c.args.mask value);
       lender = c.put.ensures.lender;
       refused = λ h. absurd (true≢false (sym h));
-      surplus = drop_further new.len t.limit new.records.now t.table.records.now (kept p).1.0 c.put.ensures.unused;
+      surplus = drop_further new.len t.limit new.records.now t.table.records.now (kept p).used c.put.ensures.unused;
     }
