@@ -14,7 +14,7 @@ returns-in-Some c =
     let g = c.args.self.now in
     let s = c.in-Some.s in
     let grid = take g.limit g.bytes.now in
-    c.first-from.ensures
+    c.first_from.ensures
     ∙ ap (λ p. first (masks_from p (drop p grid))) c.past.ensures
     ∙ ap first (sym (later_past (vertices s) (vertices_proper s) grid (grid_short g)))
     ∙ ap (λ o. next colex (vertices_or_none o) (contents g).model) (sym c.in-Some.is)

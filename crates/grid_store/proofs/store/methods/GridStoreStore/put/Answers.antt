@@ -8,7 +8,7 @@ write-requires c = (placed_some c.args.self.now c.args.s c.in-Some.p c.in-Some.e
 
 pub returns-in-Some : goal.returns-in-Some
 returns-in-Some c =
-    let value = c.in-ok-admit.ensures in
+    let value = c.in_ok-admit.ensures in
     let at = c.in-Some.ensures in
     record {
       value = value;
@@ -17,10 +17,10 @@ returns-in-Some c =
       lender = c.write.ensures.lender;
     }
 
-pub returns-in-default : goal.returns-in-default
-returns-in-default c =
-    let value = c.in-ok-admit.ensures in
-    let none = c.in-default.ensures in
+pub returns-in_default : goal.returns-in_default
+returns-in_default c =
+    let value = c.in_ok-admit.ensures in
+    let none = c.in_default.ensures in
     record {
       value = value;
       after = unplaced_kept c.args.self.now c.args.s none c.args.mask value;
