@@ -5,9 +5,9 @@ use Rattle.simplex.specs.Simplexes.{vertices}
 use Rattle.model.specs.Changes.{changed_on, room_for_next, room_goes_on}
 use Rattle.model.proofs.faces.lay_faces.Goals as goal
 
-pub lay-face-requires : goal.lay-face-requires
-lay-face-requires g c =
-    let now = g.row.S-Store.contents c.loop-i.store in
+pub lay_face-requires : goal.lay_face-requires
+lay_face-requires g c =
+    let now = g.S.Store.contents c.loop-i.store in
     let s = vertices c.args.s.now in
     record {
       range = ap (λ d. below d.range s) c.loop-i.invariant.0 ∙ c.requires.range;
@@ -16,10 +16,10 @@ lay-face-requires g c =
 
 pub loop-i-preserved : goal.loop-i-preserved
 loop-i-preserved g c =
-    let start = g.row.S-Store.contents c.args.store.now in
-    let now = g.row.S-Store.contents c.loop-i.store in
-    let then = g.row.S-Store.contents c.lay-face.new.store in
+    let start = g.S.Store.contents c.args.store.now in
+    let now = g.S.Store.contents c.loop-i.store in
+    let then = g.S.Store.contents c.lay_face.new.store in
     let fs = faces (vertices c.args.s.now) in (
-      changed_on lay_one start now then fs c.loop-i.i c.loop-i.invariant.0 c.lay-face.ensures,
-      room_goes_on now then fs c.loop-i.i (g.row.S-Store.stored c.loop-i.store).sorted c.lay-face.ensures c.loop-i.invariant.1,
+      changed_on lay_one start now then fs c.loop-i.i c.loop-i.invariant.0 c.lay_face.ensures,
+      room_goes_on now then fs c.loop-i.i (g.S.Store.stored c.loop-i.store).sorted c.lay_face.ensures c.loop-i.invariant.1,
     )

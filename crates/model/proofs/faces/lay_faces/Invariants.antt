@@ -7,5 +7,5 @@ use Rattle.model.proofs.faces.lay_faces.Given as goal
 
 abbrev pub invariant-loop-i : goal.invariant-loop-i
 invariant-loop-i g l =
-    (g.row.S-Store.contents l.store ≡ holding (g.row.S-Store.contents l.initial.store) (fold lay_one (g.row.S-Store.contents l.initial.store).model (take l.i (faces (vertices l.s)))))
-    × (length (g.row.S-Store.contents l.store).model + absent (g.row.S-Store.contents l.store).model (drop l.i (faces (vertices l.s))) ≤ (g.row.S-Store.contents l.store).limit)
+    (g.S.Store.contents l.store ≡ holding (g.S.Store.contents l.initial.store) (fold lay_one (g.S.Store.contents l.initial.store).model (take l.i (faces (vertices l.s)))))
+    × (length (g.S.Store.contents l.store).model + absent (g.S.Store.contents l.store).model (drop l.i (faces (vertices l.s))) ≤ (g.S.Store.contents l.store).limit)

@@ -6,11 +6,11 @@ use Rattle.model.proofs.faces.mark_faces.Goals as goal
 
 pub loop-i-preserved : goal.loop-i-preserved
 loop-i-preserved g c =
-    let start = g.row.S-Store.contents c.args.store.now in
-    let now = g.row.S-Store.contents c.loop-i.store in
-    let then = g.row.S-Store.contents c.mark-face.new.store in
+    let start = g.S.Store.contents c.args.store.now in
+    let now = g.S.Store.contents c.loop-i.store in
+    let then = g.S.Store.contents c.mark_face.new.store in
     let p = c.args.part.number in
     let fs = faces (vertices c.args.s.now) in (
-      changed_on (mark_one p) start now then fs c.loop-i.i c.loop-i.invariant.0 c.mark-face.ensures,
-      λ q f. holds_on p now then fs c.loop-i.i q (g.row.S-Store.stored c.loop-i.store).sorted c.mark-face.ensures (c.loop-i.invariant.1 q f),
+      changed_on (mark_one p) start now then fs c.loop-i.i c.loop-i.invariant.0 c.mark_face.ensures,
+      λ q f. holds_on p now then fs c.loop-i.i q (g.S.Store.stored c.loop-i.store).sorted c.mark_face.ensures (c.loop-i.invariant.1 q f),
     )

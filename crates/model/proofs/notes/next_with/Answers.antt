@@ -9,16 +9,16 @@ use Rattle.model.proofs.notes.next_with.Goals.{else-has-via-then-has+else-not-ha
 
 pub loop-s-smaller : goal.loop-s-smaller
 loop-s-smaller g c =
-    let now = g.row.S-Store.contents c.args.store.now in
-    walk_shorter now.model (g.row.S-Store.stored c.args.store.now).sorted (vertices_or_none c.loop-s.at) (vertices c.in-Some.s) c.in-Some.ensures
+    let now = g.S.Store.contents c.args.store.now in
+    walk_shorter now.model (g.S.Store.stored c.args.store.now).sorted (vertices_or_none c.loop-s.at) (vertices c.in-Some.s) c.in-Some.ensures
 
 pub loop-s-preserved : goal.loop-s-preserved
 loop-s-preserved g c =
-    let now = g.row.S-Store.contents c.args.store.now in
+    let now = g.S.Store.contents c.args.store.now in
     let s = vertices c.in-Some.s in
     let passed : (has c.args.u s && not (has c.args.v s)) ≡ false =
     elim c.else-has.branch [
       | else-has-via-then-has+else-not-has w ↦ and_right _ _ (ap not (sym w.has-then-has.ensures ∙ w.if-not-has.false))
       | else-has-via-else-has w ↦ and_left _ _ (sym c.has.ensures ∙ w.if-has.false)
     ] in
-    sym (first_passed c.args.u c.args.v now.model (g.row.S-Store.stored c.args.store.now).sorted (vertices_or_none c.loop-s.at) s c.in-Some.ensures passed) ∙ c.loop-s.invariant
+    sym (first_passed c.args.u c.args.v now.model (g.S.Store.stored c.args.store.now).sorted (vertices_or_none c.loop-s.at) s c.in-Some.ensures passed) ∙ c.loop-s.invariant

@@ -7,8 +7,8 @@ use Rattle.model.proofs.notes.next_with.Given as goal
 
 abbrev pub invariant-loop-s : goal.invariant-loop-s
 invariant-loop-s g l =
-    first_with l.u l.v (later colex (vertices_or_none l.at) (g.row.S-Store.contents l.store).model)
-    ≡ first_with l.u l.v (later colex (vertices_or_none l.initial.at) (g.row.S-Store.contents l.store).model)
+    first_with l.u l.v (later colex (vertices_or_none l.at) (g.S.Store.contents l.store).model)
+    ≡ first_with l.u l.v (later colex (vertices_or_none l.initial.at) (g.S.Store.contents l.store).model)
 
 abbrev pub decreases-loop-s : goal.decreases-loop-s
-decreases-loop-s g l = length (later colex (vertices_or_none l.at) (g.row.S-Store.contents l.store).model)
+decreases-loop-s g l = length (later colex (vertices_or_none l.at) (g.S.Store.contents l.store).model)

@@ -7,12 +7,12 @@ use Rattle.model.proofs.splits.put_with.Goals as goal
 
 pub returns-in-Some : goal.returns-in-Some
 returns-in-Some g c =
-    let before = g.row.S-Store.contents c.args.store.now in
+    let before = g.S.Store.contents c.args.store.now in
     let k = plus c.args.x (vertices_or_none c.args.base) in
-    taken before (g.row.S-Store.contents c.put.new.self) k c.args.mask c.requires (c.put.ensures.after ∙ ap (λ t. put_next before t c.args.mask) (fitted_is (vertices c.in-Some.s) k c.in-Some.ensures))
+    taken before (g.S.Store.contents c.put.new.self) k c.args.mask c.requires (c.put.ensures.after ∙ ap (λ t. put_next before t c.args.mask) (fitted_is (vertices c.in-Some.s) k c.in-Some.ensures))
 
-pub returns-in-default : goal.returns-in-default
-returns-in-default g c =
-    let before = g.row.S-Store.contents c.args.store.now in
+pub returns-in_default : goal.returns-in_default
+returns-in_default g c =
+    let before = g.S.Store.contents c.args.store.now in
     let k = plus c.args.x (vertices_or_none c.args.base) in
-    five_absent before k c.args.mask (g.row.S-Store.stored c.args.store.now) c.requires (not_fitted k c.in-default.ensures)
+    five_absent before k c.args.mask (g.S.Store.stored c.args.store.now) c.requires (not_fitted k c.in_default.ensures)

@@ -9,8 +9,8 @@ use Rattle.model.proofs.splits.unmerge.Given as goal
 
 abbrev pub invariant-loop-t : goal.invariant-loop-t
 invariant-loop-t g l =
-    (g.row.S-Store.contents l.store ≡ holding (g.row.S-Store.contents l.initial.store) (g.row.S-Store.contents l.store).model)
-    × Underway l.u l.v (split l.u l.v (g.row.S-Store.contents l.initial.store).model (newest_pairs (past l.trail))) (g.row.S-Store.contents l.store).model (newest_pairs (past l.trail)) (vertices_or_none l.at) l.i
+    (g.S.Store.contents l.store ≡ holding (g.S.Store.contents l.initial.store) (g.S.Store.contents l.store).model)
+    × Underway l.u l.v (split l.u l.v (g.S.Store.contents l.initial.store).model (newest_pairs (past l.trail))) (g.S.Store.contents l.store).model (newest_pairs (past l.trail)) (vertices_or_none l.at) l.i
 
 abbrev pub decreases-loop-t : goal.decreases-loop-t
-decreases-loop-t g l = length (ahead l.u l.v (g.row.S-Store.contents l.store).model (vertices_or_none l.at))
+decreases-loop-t g l = length (ahead l.u l.v (g.S.Store.contents l.store).model (vertices_or_none l.at))

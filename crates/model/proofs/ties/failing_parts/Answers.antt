@@ -12,29 +12,29 @@ use Rattle.model.proofs.ties.failing_parts.Goals as goal
 
 pub loop-s-init : goal.loop-s-init
 loop-s-init g c p l =
-    let now = g.row.S-Store.contents c.args.store.now in
+    let now = g.S.Store.contents c.args.store.now in
     let u = c.args.u in
     let f = shows p u c.args.v now.model in
     ap (λ b. b || is_some (first_of f (bases u (later colex [] now.model)))) (bit_of_none p)
-    ∙ ap (λ L. is_some (first_of f (bases u L))) (all_later now.range now.model (g.row.S-Store.stored c.args.store.now).fit)
+    ∙ ap (λ L. is_some (first_of f (bases u L))) (all_later now.range now.model (g.S.Store.stored c.args.store.now).fit)
 
 pub loop-s-smaller : goal.loop-s-smaller
 loop-s-smaller g c =
-    let now = g.row.S-Store.contents c.args.store.now in
-    walk_shorter now.model (g.row.S-Store.stored c.args.store.now).sorted (vertices_or_none c.loop-s.at) (vertices c.in-Some.s) c.in-Some.ensures
+    let now = g.S.Store.contents c.args.store.now in
+    walk_shorter now.model (g.S.Store.stored c.args.store.now).sorted (vertices_or_none c.loop-s.at) (vertices c.in-Some.s) c.in-Some.ensures
 
 pub loop-s-preserved : goal.loop-s-preserved
 loop-s-preserved g c p l =
-    let now = g.row.S-Store.contents c.args.store.now in
+    let now = g.S.Store.contents c.args.store.now in
     let u = c.args.u in
-    some_from_here_on u (shows p u c.args.v now.model) now.model (vertices_or_none c.loop-s.at) (vertices c.in-Some.s) p c.loop-s.parts c.failing-at-parts.result
-    (is_some (tie_in p u c.args.v now.model)) (g.row.S-Store.stored c.args.store.now).sorted c.in-Some.ensures (c.failing-at-parts.ensures p l) (c.loop-s.invariant p l)
+    some_from_here_on u (shows p u c.args.v now.model) now.model (vertices_or_none c.loop-s.at) (vertices c.in-Some.s) p c.loop-s.parts c.failing_at-parts.result
+    (is_some (tie_in p u c.args.v now.model)) (g.S.Store.stored c.args.store.now).sorted c.in-Some.ensures (c.failing_at-parts.ensures p l) (c.loop-s.invariant p l)
 
 pub returns : goal.returns
 returns g c p l =
-    let now = g.row.S-Store.contents c.args.store.now in
+    let now = g.S.Store.contents c.args.store.now in
     let u = c.args.u in
     let f = shows p u c.args.v now.model in
     let at = vertices_or_none c.loop-s.at in
     told_at_end (bit p c.loop-s.parts) (is_some (tie_in p u c.args.v now.model)) (first_of f (bases u (later colex at now.model)))
-    (none_left u f now.model at (walk_ends now.model at c.in-default.ensures)) (c.loop-s.invariant p l)
+    (none_left u f now.model at (walk_ends now.model at c.in_default.ensures)) (c.loop-s.invariant p l)
