@@ -5,5 +5,5 @@ use Rattle.store.specs.Contents.{Contents}
 use Rattle.holders.proofs.table.TableHolder.over.Goals as goal
 
 -- the emptied store holds a legal model
-pub invariant-of-result : goal.invariant-of-result
-invariant-of-result c = (∣ subst (λ (d : Contents). Legal d.model) (sym c.remove-all.ensures) nothing_legal ∣₁, tt)
+pub invariant_of-result : goal.invariant_of-result
+invariant_of-result c = record { legal = ∣ subst (λ (d : Contents). Legal d.model) (sym c.remove_all.ensures) nothing_legal ∣₁ }

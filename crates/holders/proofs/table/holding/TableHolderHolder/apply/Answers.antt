@@ -10,8 +10,8 @@ pub run-requires : goal.run-requires
 run-requires g c = ∥∥₁_elim c.args.self.now.legal (legal_prop (contents c.args.self.now.store.now).model) (λ l. l)
 
 -- the edit keeps the model legal
-pub invariant-of-self : goal.invariant-of-self
-invariant-of-self g c =
+pub invariant_of-self : goal.invariant_of-self
+invariant_of-self g c =
     let store = c.args.self.now.store.now in
     let legal : Legal (contents store).model = ∥∥₁_elim c.args.self.now.legal (legal_prop (contents store).model) (λ l. l) in
-    (∣ subst (λ (d : Contents). Legal d.model) (sym c.run.ensures.after) (g.met.E.Edit.keeps c.args.edit.now (contents store) (contents_stored store) legal) ∣₁, tt)
+    record { legal = ∣ subst (λ (d : Contents). Legal d.model) (sym c.run.ensures.after) (g.met.E.Edit.keeps c.args.edit.now (contents store) (contents_stored store) legal) ∣₁ }
