@@ -7,6 +7,6 @@ pub returns : goal.returns
 returns c =
     let at : c.loop-n.n < length c.args.bytes.now → get_or c.args.bytes.now c.loop-n.n 0 ≡ c.args.end = λ lt. search rules in
     record {
-      front = c.split-at.ensures.front ∙ take_before c.args.end c.loop-n.n c.args.bytes.now c.loop-n.invariant at;
-      back = c.split-at.ensures.back ∙ drop_before c.args.end c.loop-n.n c.args.bytes.now c.loop-n.invariant at;
+      front = c.split_at.ensures.front ∙ take_before c.args.end c.loop-n.n c.args.bytes.now c.loop-n.invariant at;
+      back = c.split_at.ensures.back ∙ drop_before c.args.end c.loop-n.n c.args.bytes.now c.loop-n.invariant at;
     }

@@ -6,8 +6,8 @@ use Rattle.script.proofs.Cutting.{past_none, past_some, after_one}
 use Rattle.script.proofs.Broken.{lines_lined, taken}
 use Rattle.script.proofs.lines.next_line.Goals as goal
 
-pub returns-then-is-empty : goal.returns-then-is-empty
-returns-then-is-empty c =
+pub returns-then-is_empty : goal.returns-then-is_empty
+returns-then-is_empty c =
     let none : c.args.script.now ≡ [] = nil_from_length c.args.script.now (search rules) in
     record { value = sym (ap first_line none); leads = ap lines none; law = lines_lined c.args.script.now }
 

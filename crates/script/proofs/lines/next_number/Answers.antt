@@ -3,8 +3,8 @@ use Rattle.std.proofs.Common.{rules}
 use Rattle.script.proofs.Numerals.{number_after_space}
 use Rattle.script.proofs.lines.next_number.Goals as goal
 
-pub returns-in-err-n : goal.returns-in-err-n
-returns-in-err-n c = let on = number_after_space c.args.bytes.now (search rules) (search rules) in search rules
+pub returns-in_err-n-in-32 : goal.returns-in_err-n-in-32
+returns-in_err-n-in-32 c = let on = number_after_space c.args.bytes.now (search rules) (search rules) in search rules
 
-pub returns-in-ok-n : goal.returns-in-ok-n
-returns-in-ok-n c = let on = number_after_space c.args.bytes.now (search rules) (search rules) in search rules
+pub returns-in_ok-n-in-32 : goal.returns-in_ok-n-in-32
+returns-in_ok-n-in-32 c = let on = number_after_space c.args.bytes.now (search rules) (search rules) in search rules
