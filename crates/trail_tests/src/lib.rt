@@ -16,14 +16,14 @@ mod tests {
     fn a_record_has_these_bytes(rt: HostRuntime) {
         let mut trail = Trail::new();
         assert_eq!(rt; add(&mut trail, 0, 1), Some(12));
-        assert_eq!(rt; trail.bytes(), &[0, 0, 0, 1, 0, 2, 1, 3, 1, 1, 0, 2]);
+        assert_eq!(rt; trail.bytes(), [0, 0, 0, 1, 0, 2, 1, 3, 1, 1, 0, 2].as_slice());
     }
 
     #[test]
     fn numbers_of_two_bytes_have_the_high_one_first(rt: HostRuntime) {
         let mut trail = Trail::new();
         assert_eq!(rt; trail.commit(4095, 258, 0), Some(8));
-        assert_eq!(rt; trail.bytes(), &[15, 255, 1, 2, 0, 0, 0, 0]);
+        assert_eq!(rt; trail.bytes(), [15, 255, 1, 2, 0, 0, 0, 0].as_slice());
     }
 
     #[test]
