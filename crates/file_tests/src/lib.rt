@@ -61,6 +61,6 @@ mod tests {
     #[test]
     fn a_point_is_found_at_its_place(rt: HostRuntime) {
         assert_eq!(rt; first(&[0, 0, 0, 0, 0, 0, 0, 1, 16, 5]), Some((0, 4, 0, 8)));
-        assert_eq!(rt; Vertices::of(&[16, 5]).as_slice(), &[4101]);
+        assert_eq!(rt; Vertices::of(&[16, 5]).as_slice(), [4101].as_slice());
     }
 }
