@@ -16,7 +16,10 @@ mod tests {
     fn a_record_has_these_bytes(rt: HostRuntime) {
         let mut trail = Trail::new();
         assert_eq!(rt; add(&mut trail, 0, 1), Some(12));
-        assert_eq!(rt; trail.bytes(), [0, 0, 0, 1, 0, 2, 1, 3, 1, 1, 0, 2].as_slice());
+        assert_eq!(rt;
+            trail.bytes(),
+            [0, 0, 0, 1, 0, 2, 1, 3, 1, 1, 0, 2].as_slice()
+        );
     }
 
     #[test]
