@@ -15,6 +15,7 @@ import sys
 NAME = r"[A-Za-z][A-Za-z0-9_'≢≡≤<∙₁₂-]*"
 DEFINED = re.compile(r"^\s*(?:pub )?(?:(?:abbrev|data|record|ruleset|opaque|unfoldable) )*(?:pub )?(" + NAME + r")\s*(?=[:({])(?!.*:\s*goal\.)")
 LOCAL = re.compile(r"let (" + NAME + r") *[:=]")
+ALIAS = re.compile(r"[ ,]as (" + NAME + ")")
 PARAMETERS = re.compile(r"[({]((?:" + NAME + r" )+): ")
 FOREIGN = re.compile(r"use (?:Rattle\.std|lib|native|Prim|mathlib)[^{\n]*\{([^}]*)\}")
 GOAL = re.compile(r"\b(?:goal|need)\.(" + NAME + ")")
@@ -36,12 +37,12 @@ def main():
     antt = [f for part in ("specs", "proofs") for f in glob.glob(f"crates/*/{part}/**/*.antt", recursive=True)]
     sources = glob.glob("crates/*/src/**/*.rt", recursive=True) + glob.glob("crates/*/must-fail/*.edit")
     own, goals = collections.defaultdict(set), set()
-    for path in antt:
+    for path in antt + sources:
         with open(path, encoding="utf-8") as file:
             text = file.read()
         goals.update(GOAL.findall(text))
         foreign = {n.strip() for m in FOREIGN.finditer(text) for n in m.group(1).split(",")}
-        found = [m.group(1) for line in text.split("\n") for m in [DEFINED.match(line)] if m] + LOCAL.findall(text)
+        found = [m.group(1) for line in text.split("\n") for m in [DEFINED.match(line)] if m and path.endswith(".antt")] + LOCAL.findall(text) + [a for line in text.split("\n") if re.match(r"\s*(?:ghost )?use ", line) for a in ALIAS.findall(line)]
         for group in PARAMETERS.findall(text):
             found += group.split()
         for name in found:

@@ -3,15 +3,15 @@
 
 #[cfg(test)]
 mod tests {
-    use grid_store::store::GridStore;
-    use holders::grid::GridHolder;
-    use holders::table::TableHolder;
+    use grid_store::grid::GridStore;
+    use holders::grid_holder::GridHolder;
+    use holders::table_holder::TableHolder;
     use model::holder::Holder;
     use model::refusal::ModelRefusal;
     use model::stages::Draft;
     use order::record::Record;
     use simplex::simplex::Simplex;
-    use table_store::store::TableStore;
+    use table_store::records::TableStore;
 
     // A refusal by its number.
     fn numbered<T>(answer: Result<T, ModelRefusal>) -> Result<T, u8> {

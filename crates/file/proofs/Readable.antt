@@ -1,6 +1,6 @@
 -- Bytes that are read with no flaw were written in the format.
 use Rattle.std.proofs.Common.{◌≡◌, ℕ, zero, suc, ◌+◌, ◌-◌, ◌*◌, ◌/◌, ◌%◌, ◌<◌, ◌≤◌, Bool, true, false, ◌&&◌, leb, List, [], ◌∷◌, ◌++◌, length, take, drop, Ok, Err, Result, sym, refl, ap, ◌∙◌, subst, arith}
-use Rattle.std.specs.List.{flat_map, AllByRecursion as All}
+use Rattle.std.specs.List.{flat_map, AllByRecursion}
 use Rattle.std.proofs.lemmas.List.{append_assoc, length-take-le, take-append-drop, drop_at}
 use Rattle.std.proofs.ByRecursion.{All-take, All-drop}
 use Rattle.std.proofs.lemmas.Bool.{leb-true, leb-false, cond-true, cond-false, and_parts}
@@ -27,7 +27,7 @@ length_pairs [] k even = omega arith
 length_pairs (b ∷ []) k even = absurd (omega arith)
 length_pairs (hi ∷ lo ∷ bs) k even = let ih = length_pairs bs (k - 1) (omega arith) in omega arith
 
-pairs_narrow : (bs : List ℕ) → Bytes bs → All (λ v. v < 65536) (pairs bs)
+pairs_narrow : (bs : List ℕ) → Bytes bs → AllByRecursion (λ v. v < 65536) (pairs bs)
 pairs_narrow [] small = tt
 pairs_narrow (b ∷ []) small = tt
 pairs_narrow (hi ∷ lo ∷ bs) small = (omega (arith, small.0, small.1.0), pairs_narrow bs small.1.1)
@@ -36,7 +36,7 @@ pairs_narrow (hi ∷ lo ∷ bs) small = (omega (arith, small.0, small.1.0), pair
 record Front (k : ℕ) (bs rest : List ℕ) : Type 0 where
   vs : List ℕ
   many : length vs ≡ k
-  narrow : All (λ v. v < 65536) vs
+  narrow : AllByRecursion (λ v. v < 65536) vs
   whole : vertices_written vs ++ rest ≡ bs
 
 abbrev after : Result (Content × List ℕ) Flaw → List ℕ
@@ -104,7 +104,7 @@ record EntriesFront (s n : ℕ) (go : List ℕ → List Outcome) (bs : List ℕ)
   es : List (List ℕ)
   rest : List ℕ
   many : length es ≡ n
-  fit : All (EntryFits s) es
+  fit : AllByRecursion (EntryFits s) es
   whole : flat_map (entry_written s) es ++ rest ≡ bs
   small : Bytes rest
   sound : Unflawed (go rest)

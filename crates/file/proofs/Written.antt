@@ -1,6 +1,6 @@
 -- What is written in the format is read again.
 use Rattle.std.proofs.Common.{◌≡◌, ℕ, suc, ◌+◌, ◌-◌, ◌*◌, ◌/◌, ◌%◌, ◌<◌, ◌≤◌, Bool, true, false, cond, leb, List, [], ◌∷◌, ◌++◌, length, take, Ok, sym, refl, ap, ◌∙◌, arith, length-append}
-use Rattle.std.specs.List.{flat_map, AllByRecursion as All}
+use Rattle.std.specs.List.{flat_map, AllByRecursion}
 use Rattle.std.proofs.lemmas.List.{append_assoc, take_at, drop_at, take_all}
 use Rattle.std.proofs.ByRecursion.{All-append}
 use Rattle.std.proofs.lemmas.Bool.{le-leb, leb-true, cond-true, cond-false, and_from}
@@ -46,7 +46,7 @@ first_written s vs rest fits = go (leb s 4) refl
         ap (λ l. first_entry s (l ++ rest)) w ∙ cond-false _ _ _ e ∙ cond-true _ _ _ (and_from _ _ (le-leb 1 (length vs) (omega arith)) (le-leb (length vs) 4 (omega arith))) ∙ cut_off_written s vs rest (2 * length vs) refl
 
 -- the entries that were written are read, and then what comes after them
-entries_read : (size s i p : ℕ) (go : List ℕ → List Outcome) (es : List (List ℕ)) (rest : List ℕ) → All (EntryFits s) es → p + length (flat_map (entry_written s) es ++ rest) ≡ size → entries size s (length es) i go (flat_map (entry_written s) es ++ rest) ≡ entries_placed s i p es ++ go rest
+entries_read : (size s i p : ℕ) (go : List ℕ → List Outcome) (es : List (List ℕ)) (rest : List ℕ) → AllByRecursion (EntryFits s) es → p + length (flat_map (entry_written s) es ++ rest) ≡ size → entries size s (length es) i go (flat_map (entry_written s) es ++ rest) ≡ entries_placed s i p es ++ go rest
 entries_read size s i p go [] rest fits at = refl
 entries_read size s i p go (vs ∷ es) rest fits at =
     let split = append_assoc (entry_written s vs) (flat_map (entry_written s) es) rest in
@@ -74,11 +74,11 @@ sections_read size k s n p (es ∷ more) is last fits at =
 two_are_bytes : (n : ℕ) → n < 65536 → Bytes (two_bytes n)
 two_are_bytes n h = (omega arith, (omega arith, tt))
 
-vertices_are_bytes : (vs : List ℕ) → All (λ v. v < 65536) vs → Bytes (vertices_written vs)
+vertices_are_bytes : (vs : List ℕ) → AllByRecursion (λ v. v < 65536) vs → Bytes (vertices_written vs)
 vertices_are_bytes [] h = tt
 vertices_are_bytes (v ∷ vs) h = All-append _ (two_bytes v) (vertices_written vs) (two_are_bytes v h.0) (vertices_are_bytes vs h.1)
 
-entries_are_bytes : (s : ℕ) (es : List (List ℕ)) → All (EntryFits s) es → Bytes (flat_map (entry_written s) es)
+entries_are_bytes : (s : ℕ) (es : List (List ℕ)) → AllByRecursion (EntryFits s) es → Bytes (flat_map (entry_written s) es)
 entries_are_bytes s [] h = tt
 entries_are_bytes s (vs ∷ es) h = All-append _ (entry_written s vs) (flat_map (entry_written s) es) (go (leb s 4)) (entries_are_bytes s es h.1)
   where

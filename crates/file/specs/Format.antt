@@ -1,6 +1,6 @@
 -- The format the other way round: the bytes of a file that is given as its sections, a section as its entries, an entry as its vertices.
 use Rattle.std.specs.Prelude.{◌≡◌, ℕ, ◌+◌, ◌-◌, ◌/◌, ◌%◌, ◌<◌, ◌≤◌, cond, List, [], ◌∷◌, ◌++◌, length, take, nat_le}
-use Rattle.std.specs.List.{flat_map, AllByRecursion as All}
+use Rattle.std.specs.List.{flat_map, AllByRecursion}
 use Rattle.file.specs.Entry.{in_section, section_count}
 use Rattle.file.specs.Numbers.{pairs}
 use Rattle.file.specs.Outcome.{Outcome, found, broken, outcomes}
@@ -35,12 +35,12 @@ pub record EntryFits (s : ℕ) (vs : List ℕ) : Type 0 where
   pub plain : s ≤ 4 → length vs ≡ 5 - s
   pub low : 1 ≤ length vs
   pub high : length vs ≤ 4
-  pub narrow : All (λ v. v < 65536) vs
+  pub narrow : AllByRecursion (λ v. v < 65536) vs
 
 -- the entries of each section fit it, and their count has sixteen bits
 abbrev pub SectionsFit : ℕ → List (List (List ℕ)) → Type 0
 SectionsFit s [] = Unit {0}
-SectionsFit s (es ∷ more) = (length es < 65536) × All (EntryFits s) es × SectionsFit (s + 1) more
+SectionsFit s (es ∷ more) = (length es < 65536) × AllByRecursion (EntryFits s) es × SectionsFit (s + 1) more
 
 -- a file has all its sections, and each entry fits its own
 abbrev pub Fits : List (List (List ℕ)) → Type 0
@@ -48,7 +48,7 @@ Fits file = (length file ≡ section_count) × SectionsFit 1 file
 
 -- numbers of eight bits
 abbrev pub Bytes : List ℕ → Type 0
-Bytes bs = All (λ b. b < 256) bs
+Bytes bs = AllByRecursion (λ b. b < 256) bs
 
 -- the entries of section s, from entry i on, the first of them at place p
 abbrev pub entries_placed : ℕ → ℕ → ℕ → List (List ℕ) → List Outcome

@@ -1,7 +1,7 @@
 -- What loading a file into a draft answers and leaves.
 use Rattle.std.specs.Prelude.{◌≡◌, ℕ, cond, List, [], ◌∷◌, length, take, Ok, Err, Result, ◌==◌}
 use Rattle.store.specs.Contents.{Contents}
-use Rattle.model.specs.Calls.{emptied, lay_answer, laid, mark_answer, marked as marked-with, model_number}
+use Rattle.model.specs.Calls.{emptied, lay_answer, laid, mark_answer, marked as marked_with, model_number}
 use Rattle.model.specs.declared.refusal.ModelRefusal.{ModelRefusal}
 use Rattle.file.specs.declared.entry.Site.{Site}
 use Rattle.file.specs.declared.refusal.Cause.{Cause}
@@ -42,7 +42,7 @@ entry_next c (tetrahedron bs) = laid c (vertices_of bs)
 entry_next c (triangle bs) = laid c (vertices_of bs)
 entry_next c (wire bs) = laid c (vertices_of bs)
 entry_next c (point bs) = laid c (vertices_of bs)
-entry_next c (marked p bs) = marked-with c p (vertices_of bs)
+entry_next c (marked p bs) = marked_with c p (vertices_of bs)
 
 -- a refused entry stops the load, at its site
 abbrev pub unless_refused : {A : Type 0} → Site → Result ℕ ModelRefusal → Result A Stopped → Result A Stopped

@@ -9,7 +9,7 @@ use Rattle.complex.specs.Simplex.{colex}
 use Rattle.complex.proofs.Order.{colex_lawful, colex_exact}
 use Rattle.complex.proofs.Writes.{write_keeps_order}
 use Rattle.store.specs.Contents.{fits}
-use Rattle.grid_store.specs.declared.store.GridStore.{GridStore}
+use Rattle.grid_store.specs.declared.grid.GridStore.{GridStore}
 use Rattle.grid_store.specs.Places.{vertex_range, places, simplex_at}
 use Rattle.grid_store.specs.Masks.{counts, masks_from}
 use Rattle.grid_store.specs.Stores.{contents, contents_stored, limit_at_most}

@@ -13,7 +13,7 @@ use Rattle.store.specs.Contents.{Contents, holding}
 use Rattle.store.specs.Puts.{put_answer, put_next, settled}
 use Rattle.store.specs.declared.refusal.StoreRefusal.{StoreRefusal}
 use Rattle.store.specs.declared.refusal.StoreRefusal.TheVariants.{Range, Full}
-use Rattle.grid_store.specs.declared.store.GridStore.{GridStore}
+use Rattle.grid_store.specs.declared.grid.GridStore.{GridStore}
 use Rattle.grid_store.specs.Places.{vertex_range, places, place}
 use Rattle.grid_store.specs.Masks.{masks_from, placed, contents_over}
 use Rattle.grid_store.specs.Stores.{contents}

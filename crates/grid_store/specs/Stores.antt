@@ -6,7 +6,7 @@ use Rattle.std.proofs.lemmas.Bool.{cond_both}
 use Rattle.order.specs.Assoc.{bind}
 use Rattle.complex.specs.Model.{present}
 use Rattle.store.specs.Contents.{Contents, Stored}
-use Rattle.grid_store.specs.declared.store.GridStore.{GridStore}
+use Rattle.grid_store.specs.declared.grid.GridStore.{GridStore}
 use Rattle.grid_store.specs.Places.{places, simplex_at}
 use Rattle.grid_store.specs.Masks.{masks_from, limit_over, contents_over}
 

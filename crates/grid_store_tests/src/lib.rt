@@ -3,7 +3,7 @@
 
 #[cfg(test)]
 mod tests {
-    use grid_store::store::GridStore;
+    use grid_store::grid::GridStore;
     use order::keys::Order;
     use simplex::simplex::Simplex;
     use std::cmp::Ordering;

@@ -5,13 +5,13 @@
 mod tests {
     use file::load::load;
     use file::refusal::FileRefusal;
-    use holders::table::TableHolder;
+    use holders::table_holder::TableHolder;
     use model::holder::Holder;
     use model::stages::Draft;
     use order::record::Record;
     use simplex::simplex::Simplex;
     use std::process::Abort;
-    use table_store::store::TableStore;
+    use table_store::records::TableStore;
 
     // A triangle 0 1 2 with part 1 on point 1.
     const MARKED: [u8; 31] = [

@@ -2,7 +2,7 @@
 ghost use Rattle.std.specs.Prelude.{◌≡◌, ℕ, ◌+◌, ◌<◌, ◌≤◌, true, not, List, length, if◌then◌else◌, Some, nat_eq};
 ghost use Rattle.complex.specs.Mask.{bit};
 ghost use Rattle.complex.specs.Model.{mask, lay, lay_one, absent, mark, mark_one, unmarked};
-ghost use Rattle.complex.specs.Simplex.{faces as all-faces, below, Face};
+ghost use Rattle.complex.specs.Simplex.{faces as all_faces, below, Face};
 ghost use Rattle.simplex.specs.Simplexes.{vertices, nth};
 ghost use Rattle.store.specs.Contents.{holding};
 ghost use Rattle.model.specs.Walk.{counted, stepped};
@@ -14,7 +14,7 @@ use store::meaning::Store;
 
 // How many faces are absent.
 pub(crate) fn absent_faces<S: Store>(store: &S, s: &Simplex) -> usize
-    ensures { result ≡ absent (S.Store.contents store.now).model (all-faces (vertices s.now)) }
+    ensures { result ≡ absent (S.Store.contents store.now).model (all_faces (vertices s.now)) }
 {
     let mut n = 0;
     for i in 0..MOST_FACES {
@@ -25,7 +25,7 @@ pub(crate) fn absent_faces<S: Store>(store: &S, s: &Simplex) -> usize
 
 // 1 where there is a face of this number and it is absent.
 fn absent_at<S: Store>(store: &S, s: &Simplex, i: usize) -> usize
-    ensures { result ≡ counted (λ f. (if nat_eq (mask (S.Store.contents store.now).model f) 0 then 1 else 0)) (nth (all-faces (vertices s.now)) i) }
+    ensures { result ≡ counted (λ f. (if nat_eq (mask (S.Store.contents store.now).model f) 0 then 1 else 0)) (nth (all_faces (vertices s.now)) i) }
 {
     let Some(face) = s.face(i) else {
         return 0;
@@ -35,7 +35,7 @@ fn absent_at<S: Store>(store: &S, s: &Simplex, i: usize) -> usize
 
 // How many faces lack the part's bit.
 pub(crate) fn unmarked_faces<S: Store>(store: &S, part: Part, s: &Simplex) -> usize
-    ensures { result ≡ unmarked part.number (S.Store.contents store.now).model (all-faces (vertices s.now)) }
+    ensures { result ≡ unmarked part.number (S.Store.contents store.now).model (all_faces (vertices s.now)) }
 {
     let mut n = 0;
     for i in 0..MOST_FACES {
@@ -46,7 +46,7 @@ pub(crate) fn unmarked_faces<S: Store>(store: &S, part: Part, s: &Simplex) -> us
 
 // 1 where there is a face of this number and it lacks the part's bit.
 fn unmarked_at<S: Store>(store: &S, part: Part, s: &Simplex, i: usize) -> usize
-    ensures { result ≡ counted (λ f. (if not (bit part.number (mask (S.Store.contents store.now).model f)) then 1 else 0)) (nth (all-faces (vertices s.now)) i) }
+    ensures { result ≡ counted (λ f. (if not (bit part.number (mask (S.Store.contents store.now).model f)) then 1 else 0)) (nth (all_faces (vertices s.now)) i) }
 {
     let Some(face) = s.face(i) else {
         return 0;
@@ -57,7 +57,7 @@ fn unmarked_at<S: Store>(store: &S, part: Part, s: &Simplex, i: usize) -> usize
 // Puts every absent face, for which there is room.
 pub(crate) fn lay_faces<S: Store>(store: &mut S, s: &Simplex)
     requires range { below (S.Store.contents store.old).range (vertices s.now) ≡ true }
-    requires room { length (S.Store.contents store.old).model + absent (S.Store.contents store.old).model (all-faces (vertices s.now)) ≤ (S.Store.contents store.old).limit }
+    requires room { length (S.Store.contents store.old).model + absent (S.Store.contents store.old).model (all_faces (vertices s.now)) ≤ (S.Store.contents store.old).limit }
     ensures { S.Store.contents store.new ≡ holding (S.Store.contents store.old) (lay (S.Store.contents store.old).model (vertices s.now)) }
 {
     for i in 0..MOST_FACES {
@@ -68,8 +68,8 @@ pub(crate) fn lay_faces<S: Store>(store: &mut S, s: &Simplex)
 // Puts the face of this number, if there is one and it is absent.
 fn lay_face<S: Store>(store: &mut S, s: &Simplex, i: usize)
     requires range { below (S.Store.contents store.old).range (vertices s.now) ≡ true }
-    requires room { (f : List ℕ) → nth (all-faces (vertices s.now)) i ≡ Some f → mask (S.Store.contents store.old).model f ≡ 0 → length (S.Store.contents store.old).model < (S.Store.contents store.old).limit }
-    ensures { S.Store.contents store.new ≡ holding (S.Store.contents store.old) (stepped lay_one (S.Store.contents store.old).model (nth (all-faces (vertices s.now)) i)) }
+    requires room { (f : List ℕ) → nth (all_faces (vertices s.now)) i ≡ Some f → mask (S.Store.contents store.old).model f ≡ 0 → length (S.Store.contents store.old).model < (S.Store.contents store.old).limit }
+    ensures { S.Store.contents store.new ≡ holding (S.Store.contents store.old) (stepped lay_one (S.Store.contents store.old).model (nth (all_faces (vertices s.now)) i)) }
 {
     if let Some(face) = s.face(i) {
         if (*store).look(&face) == 0 {
@@ -93,7 +93,7 @@ pub(crate) fn mark_faces<S: Store>(store: &mut S, part: Part, s: &Simplex)
 fn mark_face<S: Store>(store: &mut S, part: Part, s: &Simplex, i: usize)
     requires range { below (S.Store.contents store.old).range (vertices s.now) ≡ true }
     requires held { (q : List ℕ) → Face q (vertices s.now) → 0 < mask (S.Store.contents store.old).model q }
-    ensures { S.Store.contents store.new ≡ holding (S.Store.contents store.old) (stepped (mark_one part.number) (S.Store.contents store.old).model (nth (all-faces (vertices s.now)) i)) }
+    ensures { S.Store.contents store.new ≡ holding (S.Store.contents store.old) (stepped (mark_one part.number) (S.Store.contents store.old).model (nth (all_faces (vertices s.now)) i)) }
 {
     if let Some(face) = s.face(i) {
         let mask = (*store).look(&face) | part.mask();

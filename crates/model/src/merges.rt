@@ -1,6 +1,6 @@
 // Merging one vertex into another in place, in any store.
 ghost use Rattle.std.specs.Prelude.{◌≡◌, ◌<◌, true, [], ◌∷◌, ◌≢◌};
-ghost use Rattle.complex.specs.Model.{mask as mask-of, Legal};
+ghost use Rattle.complex.specs.Model.{mask as mask_of, Legal};
 ghost use Rattle.complex.specs.Simplex.{below, has, plus, less};
 ghost use Rattle.collapse.specs.Image.{collapse};
 ghost use Rattle.simplex.specs.Simplexes.{vertices};
@@ -29,7 +29,7 @@ pub(crate) fn merge<S: Store>(store: &mut S, u: u16, v: u16)
 // Takes out a held simplex with v; where it lacks u, the one with u in the place of v gets its bits.
 fn merge_one<S: Store>(store: &mut S, u: u16, v: u16, t: &Simplex)
     requires range { below (S.Store.contents store.old).range (u ∷ []) ≡ true }
-    requires held { 0 < mask-of (S.Store.contents store.old).model (vertices t.now) }
+    requires held { 0 < mask_of (S.Store.contents store.old).model (vertices t.now) }
     requires taken { has v (vertices t.now) ≡ true }
     ensures { S.Store.contents store.new ≡ holding (S.Store.contents store.old) (merge_one u v (S.Store.contents store.old).model (vertices t.now)) }
 {

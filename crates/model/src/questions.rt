@@ -1,6 +1,6 @@
 // What can be asked of the model in any store.
 ghost use Rattle.std.specs.Prelude.{◌≡◌};
-ghost use Rattle.complex.specs.Model.{mask, counts_up, counts_down, euler as euler-number};
+ghost use Rattle.complex.specs.Model.{mask, counts_up, counts_down, euler as euler_number};
 ghost use Rattle.simplex.specs.Simplexes.{vertices};
 
 use crate::part::Part;
@@ -9,7 +9,7 @@ use store::meaning::Store;
 
 // The simplexes of a part with one or three vertices, less those with two or four.
 pub fn euler<S: Store>(store: &S, part: Part) -> i32
-    ensures { result ≡ euler-number part.number (S.Store.contents store.now).model }
+    ensures { result ≡ euler_number part.number (S.Store.contents store.now).model }
 {
     let mut up = 0usize;
     let mut down = 0usize;

@@ -3,7 +3,7 @@
 
 #[cfg(test)]
 mod tests {
-    use holders::table::TableHolder;
+    use holders::table_holder::TableHolder;
     use model::holder::Holder;
     use model::refusal::ModelRefusal;
     use model::stages::{Draft, Working};
@@ -11,7 +11,7 @@ mod tests {
     use simplex::simplex::Simplex;
     use std::process::Abort;
     use std::test::Fail;
-    use table_store::store::TableStore;
+    use table_store::records::TableStore;
 
     fn record() -> Result<Record<Simplex, u8>, Fail> {
         match Simplex::of(&[0]) {

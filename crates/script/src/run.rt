@@ -7,13 +7,13 @@ use crate::answers::{Answer, push_line};
 use crate::lines::{Command, command_of, next_line};
 use crate::refusal::ScriptRefusal;
 use file::load::load;
-use holders::table::TableHolder;
+use holders::table_holder::TableHolder;
 use model::holder::Holder;
 use model::stages::{Draft, Working};
 use order::record::Record;
 use simplex::simplex::Simplex;
 use std::alloc::{AllocError, Global};
-use table_store::store::TableStore;
+use table_store::records::TableStore;
 
 // The records of the program's store.
 const RECORDS: usize = 4000;

@@ -1,6 +1,6 @@
 pub mod faces;
 pub mod makes;
-pub mod order;
+pub mod ranking;
 pub mod reads;
 
 ghost use Rattle.std.specs.Prelude.{◌≡◌, true};

@@ -11,7 +11,7 @@ use Rattle.simplex.specs.Simplexes.{vertices, by_vertices}
 use Rattle.table.specs.declared.rows.Table.{Table}
 use Rattle.table.specs.Held.{held, room, Good, Stored, Removed}
 use Rattle.store.specs.Contents.{Contents, fits, holding}
-use Rattle.table_store.specs.declared.store.TableStore.{TableStore}
+use Rattle.table_store.specs.declared.records.TableStore.{TableStore}
 use Rattle.table_store.specs.Entries.{entries, length_entries}
 use Rattle.table_store.specs.Limits.{most_records, vertex_range}
 use Rattle.table_store.specs.Stores.{contents, contents_length, contents_stored}

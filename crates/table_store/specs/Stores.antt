@@ -4,7 +4,7 @@ use Rattle.std.proofs.Common.{◌∙◌, arith}
 use Rattle.std.proofs.lemmas.List.{length-take-le}
 use Rattle.table.specs.Held.{held}
 use Rattle.store.specs.Contents.{Contents, Stored}
-use Rattle.table_store.specs.declared.store.TableStore.{TableStore}
+use Rattle.table_store.specs.declared.records.TableStore.{TableStore}
 use Rattle.table_store.specs.Entries.{entries, length_entries, rising_entries}
 use Rattle.table_store.specs.Limits.{most_records, vertex_range}
 

@@ -1,4 +1,4 @@
 // The table store: simplexes with their masks in an ordered table over records that the caller lends.
 #![tactic(auto)]
 
-pub mod store;
+pub mod records;

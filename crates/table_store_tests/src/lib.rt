@@ -10,7 +10,7 @@ mod tests {
     use std::test::Fail;
     use store::meaning::Store;
     use store::refusal::StoreRefusal;
-    use table_store::store::TableStore;
+    use table_store::records::TableStore;
 
     fn simplex(list: &[u16]) -> Result<Simplex, Fail> {
         match Simplex::of(list) {

@@ -1,6 +1,6 @@
 -- Notes are read again off their bytes.
 use Rattle.std.proofs.Common.{◌≡◌, ℕ, zero, suc, ◌+◌, ◌-◌, ◌*◌, ◌/◌, ◌%◌, ◌<◌, ◌≤◌, List, [], ◌∷◌, ◌++◌, length, take, drop, sym, refl, ap, ◌∙◌, arith, length-append}
-use Rattle.std.specs.List.{AllByRecursion as All}
+use Rattle.std.specs.List.{AllByRecursion}
 use Rattle.std.proofs.lemmas.List.{append_assoc, take_at, drop_at}
 use Rattle.std.proofs.ByRecursion.{All-append}
 use Rattle.trail.specs.Notes.{Note, note, two_bytes, masks, bytes_of_note, bytes_of, room_of, room_used}
@@ -85,14 +85,14 @@ formed_of xs ns is = ap (λ l. bytes_of (notes_of l)) is ∙ ap bytes_of (notes_
 pub holds_of : (xs : List ℕ) (ns : List Note) → xs ≡ bytes_of ns → notes_of xs ≡ ns
 holds_of xs ns is = ap notes_of is ∙ notes_of_bytes ns
 
-two_are_bytes : (n : ℕ) → n < 65536 → All Byte (two_bytes n)
+two_are_bytes : (n : ℕ) → n < 65536 → AllByRecursion Byte (two_bytes n)
 two_are_bytes n h = (omega arith, (omega arith, tt))
 
-masks_are_bytes : (ps : List (ℕ × ℕ)) → All MasksFit ps → All Byte (masks ps)
+masks_are_bytes : (ps : List (ℕ × ℕ)) → AllByRecursion MasksFit ps → AllByRecursion Byte (masks ps)
 masks_are_bytes [] h = tt
 masks_are_bytes (p ∷ ps) h = (h.0.0, (h.0.1, masks_are_bytes ps h.1))
 
-note_is_bytes : (n : Note) → NoteFits n → All Byte (bytes_of_note n)
+note_is_bytes : (n : Note) → NoteFits n → AllByRecursion Byte (bytes_of_note n)
 note_is_bytes n h =
     let s = length n.pairs in
     let most = All-append Byte (masks n.pairs) (two_bytes s) (masks_are_bytes n.pairs h.narrow) (two_are_bytes s h.few) in
@@ -101,7 +101,7 @@ note_is_bytes n h =
     let c = two_are_bytes s h.few in
     (u.0, (u.1.0, (v.0, (v.1.0, (c.0, (c.1.0, most))))))
 
-notes_are_bytes : (ns : List Note) → All NoteFits ns → All Byte (bytes_of ns)
+notes_are_bytes : (ns : List Note) → AllByRecursion NoteFits ns → AllByRecursion Byte (bytes_of ns)
 notes_are_bytes [] h = tt
 notes_are_bytes (n ∷ ns) h = All-append Byte (bytes_of ns) (bytes_of_note n) (notes_are_bytes ns h.1) (note_is_bytes n h.0)
 

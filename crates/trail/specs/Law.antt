@@ -1,6 +1,6 @@
 -- The promise about the records' bytes, for every list of notes.
 use Rattle.std.specs.Prelude.{◌≡◌, ℕ, ◌<◌, List, length}
-use Rattle.std.specs.List.{AllByRecursion as All}
+use Rattle.std.specs.List.{AllByRecursion}
 use Rattle.trail.specs.Notes.{Note, bytes_of}
 use Rattle.trail.specs.Decoding.{notes_of}
 
@@ -17,8 +17,8 @@ pub record NoteFits (n : Note) : Type 0 where
   pub u : n.u < 65536
   pub v : n.v < 65536
   pub few : length n.pairs < 65536
-  pub narrow : All MasksFit n.pairs
+  pub narrow : AllByRecursion MasksFit n.pairs
 
 -- the records of notes are bytes, and the notes are read off them again
 abbrev pub NotesComeBack : Type 0
-NotesComeBack = (ns : List Note) → All NoteFits ns → All Byte (bytes_of ns) × (notes_of (bytes_of ns) ≡ ns)
+NotesComeBack = (ns : List Note) → AllByRecursion NoteFits ns → AllByRecursion Byte (bytes_of ns) × (notes_of (bytes_of ns) ≡ ns)
