@@ -1,3 +1,5 @@
+pub mod Walked
+pub mod Changes
 pub mod Counted
 pub mod Tying
 pub mod Failing

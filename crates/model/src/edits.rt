@@ -3,8 +3,8 @@ ghost use Rattle.std.specs.Prelude.{◌≡◌, []};
 ghost use Rattle.simplex.specs.Simplexes.{vertices};
 ghost use Rattle.store.specs.Contents.{holding};
 ghost use Rattle.model.specs.Calls.{emptied, lay_simplex, laid_simplex, mark_simplex, marked_simplex};
-ghost use Rattle.std.proofs.Common.{rules};
-ghost use Rattle.model.specs.Changes.{laid_keeps_legal, marked_keeps_legal};
+ghost use Rattle.complex.proofs.Told.{nothing_legal};
+ghost use Rattle.model.proofs.Changes.{laid_keeps_legal, marked_keeps_legal};
 
 use crate::edit::Edit;
 use crate::faces::{absent_faces, lay_faces, mark_faces, unmarked_faces};
@@ -32,7 +32,7 @@ impl Edit for Clear {
 
     ghost next = { λ _ c. emptied c };
 
-    ghost keeps = { Prim.search rules };
+    ghost keeps = { λ _ _ _ _. nothing_legal };
 
     fn run<S: Store>(&self, store: &mut S) {
         remove_all(store)

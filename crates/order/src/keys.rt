@@ -2,7 +2,7 @@ ghost use Rattle.std.specs.Prelude.{◌≡◌};
 ghost use Rattle.std.specs.declared.cmp.Ordering.TheVariants.{Less, Equal, Greater};
 ghost use Rattle.std.specs.declared.cmp.Ordering.{Ordering};
 ghost use Rattle.std.specs.Ordering.{ordering_reverse, nat_cmp};
-ghost use Rattle.std.proofs.Common.{rules};
+ghost use Rattle.order.proofs.Numbers.{nat_flip, nat_chain, nat_alike};
 
 use std::cmp::Ordering;
 
@@ -26,11 +26,11 @@ pub trait Order {
 impl Order for u16 {
     ghost ranks = { nat_cmp };
 
-    ghost flip = { Prim.search rules };
+    ghost flip = { nat_flip };
 
-    ghost chain = { Prim.search rules };
+    ghost chain = { nat_chain };
 
-    ghost alike = { Prim.search rules };
+    ghost alike = { nat_alike };
 
     fn compare(&self, other: &u16) -> Ordering {
         self.cmp(other)
