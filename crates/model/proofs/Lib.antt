@@ -1,5 +1,3 @@
-pub mod Walked
-pub mod Changes
 pub mod Counted
 pub mod Tying
 pub mod Failing

@@ -26,7 +26,7 @@ use Rattle.store.proofs.Walks.{few_counted, fit_parts, walk_ends, all_later, non
 use Rattle.trail.specs.Notes.{Note}
 use Rattle.trail.specs.Questions.{newest_pair}
 use Rattle.model.specs.Splits.{newest_pairs, one_sided, sided, one_held, Takes, SplitsAt, Undoes}
-use Rattle.model.proofs.Changes.{put_accepted}
+use Rattle.model.specs.Changes.{put_accepted}
 use Rattle.history.proofs.Fitted.{fits_shaped, fits_ranged}
 use Rattle.model.proofs.Passing.{later_put, passing_rising, passing_later, passing_put}
 

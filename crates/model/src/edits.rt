@@ -4,7 +4,7 @@ ghost use Rattle.simplex.specs.Simplexes.{vertices};
 ghost use Rattle.store.specs.Contents.{holding};
 ghost use Rattle.model.specs.Calls.{emptied, lay_simplex, laid_simplex, mark_simplex, marked_simplex};
 ghost use Rattle.complex.proofs.Told.{nothing_legal};
-ghost use Rattle.model.proofs.Changes.{laid_keeps_legal, marked_keeps_legal};
+ghost use Rattle.model.specs.Changes.{laid_keeps_legal, marked_keeps_legal};
 
 use crate::edit::Edit;
 use crate::faces::{absent_faces, lay_faces, mark_faces, unmarked_faces};

@@ -1,4 +1,3 @@
-pub mod Numbers
 pub mod Ranks
 pub mod Puts
 pub mod Maps

@@ -1,1 +1,2 @@
 pub mod Assoc
+pub mod Numbers

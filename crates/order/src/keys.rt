@@ -2,7 +2,7 @@ ghost use Rattle.std.specs.Prelude.{◌≡◌};
 ghost use Rattle.std.specs.declared.cmp.Ordering.TheVariants.{Less, Equal, Greater};
 ghost use Rattle.std.specs.declared.cmp.Ordering.{Ordering};
 ghost use Rattle.std.specs.Ordering.{ordering_reverse, nat_cmp};
-ghost use Rattle.order.proofs.Numbers.{nat_flip, nat_chain, nat_alike};
+ghost use Rattle.order.specs.Numbers.{nat_flip, nat_chain, nat_alike};
 
 use std::cmp::Ordering;
 

@@ -2,7 +2,7 @@ use Rattle.std.proofs.Common.{cond, eqb, arith}
 use Rattle.complex.specs.Model.{mask}
 use Rattle.complex.specs.Simplex.{faces}
 use Rattle.simplex.specs.Simplexes.{vertices, nth}
-use Rattle.model.proofs.Walked.{count_on, one_at_most}
+use Rattle.model.specs.Walked.{count_on, one_at_most}
 use Rattle.model.proofs.faces.absent_faces.Goals as goal
 
 pub overflow_add-n : goal.overflow_add-n

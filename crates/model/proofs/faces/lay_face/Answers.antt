@@ -1,6 +1,6 @@
 use Rattle.std.proofs.Common.{sym, ◌∙◌}
 use Rattle.simplex.specs.Simplexes.{vertices}
-use Rattle.model.proofs.Changes.{lays_face}
+use Rattle.model.specs.Changes.{lays_face}
 use Rattle.model.proofs.faces.lay_face.Goals as goal
 
 pub returns-then-look-eq0 : goal.returns-then-look-eq0

@@ -2,7 +2,7 @@ use Rattle.std.proofs.Common.{ap, ◌∙◌}
 use Rattle.complex.specs.Model.{lay_one}
 use Rattle.complex.specs.Simplex.{below, faces}
 use Rattle.simplex.specs.Simplexes.{vertices}
-use Rattle.model.proofs.Changes.{changed_on, room_for_next, room_goes_on}
+use Rattle.model.specs.Changes.{changed_on, room_for_next, room_goes_on}
 use Rattle.model.proofs.faces.lay_faces.Goals as goal
 
 pub lay_face-requires : goal.lay_face-requires

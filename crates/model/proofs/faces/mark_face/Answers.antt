@@ -3,8 +3,8 @@ use lib.Bits.{bit_or}
 use Rattle.complex.specs.Simplex.{faces}
 use Rattle.complex.proofs.Faces.{rises_rising, listed_is_face}
 use Rattle.simplex.specs.Simplexes.{vertices}
-use Rattle.model.proofs.Changes.{marks_face}
-use Rattle.model.proofs.Walked.{nth_among}
+use Rattle.model.specs.Changes.{marks_face}
+use Rattle.model.specs.Walked.{nth_among}
 use Rattle.model.proofs.faces.mark_face.Goals as goal
 
 pub returns-in-Some : goal.returns-in-Some

@@ -1,7 +1,7 @@
 use Rattle.complex.specs.Model.{mark_one}
 use Rattle.complex.specs.Simplex.{faces}
 use Rattle.simplex.specs.Simplexes.{vertices}
-use Rattle.model.proofs.Changes.{changed_on, holds_on}
+use Rattle.model.specs.Changes.{changed_on, holds_on}
 use Rattle.model.proofs.faces.mark_faces.Goals as goal
 
 pub loop-i-preserved : goal.loop-i-preserved

@@ -3,7 +3,7 @@ use Rattle.complex.specs.Mask.{bit}
 use Rattle.complex.specs.Model.{mask}
 use Rattle.complex.specs.Simplex.{faces}
 use Rattle.simplex.specs.Simplexes.{vertices, nth}
-use Rattle.model.proofs.Walked.{count_on, one_at_most}
+use Rattle.model.specs.Walked.{count_on, one_at_most}
 use Rattle.model.proofs.faces.unmarked_faces.Goals as goal
 
 pub overflow_add-n : goal.overflow_add-n

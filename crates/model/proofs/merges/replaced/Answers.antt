@@ -2,7 +2,7 @@ use Rattle.std.proofs.Common.{ap, ◌∙◌}
 use Rattle.complex.specs.Simplex.{plus}
 use Rattle.simplex.specs.Simplexes.{vertices}
 use Rattle.model.proofs.Merging.{replaced_is_made, fitted_is}
-use Rattle.model.proofs.Walked.{some_corner, four_at_most}
+use Rattle.model.specs.Walked.{some_corner, four_at_most}
 use Rattle.model.proofs.merges.replaced.Goals as goal
 
 pub unwrap-requires : goal.unwrap-requires

@@ -4,7 +4,7 @@ use Rattle.complex.specs.Model.{mask}
 use Rattle.complex.specs.Simplex.{faces}
 use Rattle.complex.proofs.Faces.{few_faces}
 use Rattle.simplex.specs.Simplexes.{vertices}
-use Rattle.model.proofs.Walked.{four_at_most}
+use Rattle.model.specs.Walked.{four_at_most}
 use Rattle.model.proofs.edits.LayEdit.run.Goals as goal
 
 pub overflow_add-held : goal.overflow_add-held

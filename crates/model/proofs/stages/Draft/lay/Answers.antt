@@ -1,5 +1,5 @@
 use Rattle.simplex.specs.Simplexes.{vertices}
-use Rattle.model.proofs.Changes.{lays}
+use Rattle.model.specs.Changes.{lays}
 use Rattle.model.proofs.stages.Draft.lay.Goals as goal
 
 pub returns-in-Some : goal.returns-in-Some

@@ -1,7 +1,7 @@
 use Rattle.std.proofs.Common.{◌≡◌, ℕ, ◌<◌, sym, ap, ◌∙◌, subst}
 use Rattle.simplex.specs.Simplexes.{vertices}
 use Rattle.model.specs.Calls.{Marks, mark_simplex, marked_simplex}
-use Rattle.model.proofs.Changes.{marks, known_part}
+use Rattle.model.specs.Changes.{marks, known_part}
 use Rattle.model.proofs.stages.Draft.mark.Goals as goal
 
 pub returns-in-Some-of : goal.returns-in-Some-of

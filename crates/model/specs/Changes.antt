@@ -19,7 +19,7 @@ use Rattle.model.specs.Calls.{parts, lay_simplex, laid_simplex, lay_answer, laid
 use Rattle.model.specs.Walk.{stepped}
 use Rattle.model.specs.declared.refusal.ModelRefusal.{ModelRefusal}
 use Rattle.model.specs.declared.refusal.ModelRefusal.TheVariants.{Part, Vertices, Range, Held, Full, Absent}
-use Rattle.model.proofs.Walked.{folded_on, drop_nth, drop_past, nth_among}
+use Rattle.model.specs.Walked.{folded_on, drop_nth, drop_past, nth_among}
 
 -- a put within range that needs no room, or finds some, is accepted
 pub put_accepted : (c : Contents) (s : List ℕ) (m : ℕ) → 0 < m → below c.range s ≡ true → (mask c.model s ≡ 0 → length c.model < c.limit) → put_next c s m ≡ holding c (write c.model s m)
