@@ -3,7 +3,7 @@ pub mod Ranks
 pub mod Order
 pub mod Chosen
 pub mod Masks
-pub mod Grid
+pub mod GridBytes
 pub mod Fronts
 pub mod Finding
 pub mod Emptied

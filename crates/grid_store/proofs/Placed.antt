@@ -19,7 +19,7 @@ use Rattle.grid_store.specs.Masks.{masks_from, placed, contents_over}
 use Rattle.grid_store.specs.Stores.{contents}
 use Rattle.grid_store.proofs.Changes.{grid_length, grid_short}
 use Rattle.grid_store.proofs.Fronts.{front_of_write}
-use Rattle.grid_store.proofs.Grid.{write_byte, outside_absent, removing_absent}
+use Rattle.grid_store.proofs.GridBytes.{write_byte, outside_absent, removing_absent}
 use Rattle.grid_store.specs.Laws.{InGrid}
 use Rattle.grid_store.proofs.Order.{place_in_grid}
 

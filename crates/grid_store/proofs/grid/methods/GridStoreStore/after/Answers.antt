@@ -5,7 +5,7 @@ use Rattle.simplex.specs.Simplexes.{vertices, vertices_or_none}
 use Rattle.grid_store.specs.Masks.{masks_from}
 use Rattle.grid_store.specs.Stores.{contents}
 use Rattle.grid_store.proofs.Changes.{grid_short}
-use Rattle.grid_store.proofs.Grid.{later_past}
+use Rattle.grid_store.proofs.GridBytes.{later_past}
 use Rattle.grid_store.proofs.Placed.{vertices_proper}
 use Rattle.grid_store.proofs.grid.methods.GridStoreStore.after.Goals as goal
 

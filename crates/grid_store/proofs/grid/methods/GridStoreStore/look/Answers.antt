@@ -2,7 +2,7 @@ use Rattle.std.proofs.Common.{length, get_or, take, unwrap_or, sym, ap, ◌∙�
 use Rattle.simplex.specs.Simplexes.{vertices}
 use Rattle.grid_store.proofs.Changes.{grid_short, grid_byte}
 use Rattle.grid_store.proofs.Emptied.{limit_lent}
-use Rattle.grid_store.proofs.Grid.{mask_byte}
+use Rattle.grid_store.proofs.GridBytes.{mask_byte}
 use Rattle.grid_store.proofs.Placed.{placed_some, unplaced_absent}
 use Rattle.grid_store.proofs.grid.methods.GridStoreStore.look.Goals as goal
 
