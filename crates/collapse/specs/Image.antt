@@ -1,5 +1,5 @@
 -- Merging the vertex v into the vertex u: the image rule.
-use Rattle.std.specs.Prelude.{◌≡◌, ℕ, ◌<◌, Bool, cond, List, [], ◌∷◌, fold, ◌==◌, bit_or}
+use Rattle.std.specs.Prelude.{◌≡◌, ℕ, cond, List, [], fold, ◌==◌, bit_or}
 use Rattle.order.specs.declared.record.Record.{Record}
 use Rattle.complex.specs.Model.{Model, mask, write, Sorted, In}
 use Rattle.complex.specs.Simplex.{has, plus}

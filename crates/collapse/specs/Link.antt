@@ -1,5 +1,5 @@
 -- The link condition of an edge, for the body and each part.
-use Rattle.std.specs.Prelude.{◌≡◌, ℕ, ◌<◌, Bool, true, false, List}
+use Rattle.std.specs.Prelude.{◌≡◌, ℕ, ◌<◌, false, List}
 use Rattle.std.specs.declared.cmp.Ordering.TheVariants.{Less}
 use Rattle.complex.specs.Model.{Model, In}
 use Rattle.complex.specs.Simplex.{colex, has, plus, Rising}

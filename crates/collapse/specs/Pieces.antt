@@ -1,5 +1,5 @@
 -- Pieces: classes of a part's vertices that chains of its edges connect.
-use Rattle.std.specs.Prelude.{ℕ, List, [], ◌∷◌}
+use Rattle.std.specs.Prelude.{ℕ, [], ◌∷◌}
 use Rattle.complex.specs.Model.{Model, In}
 use Rattle.complex.specs.Simplex.{plus}
 

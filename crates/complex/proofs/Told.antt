@@ -6,7 +6,7 @@ use Rattle.order.specs.Assoc.{by, lookup}
 use Rattle.order.proofs.Maps.{lookup_put, same_lookups}
 use Rattle.order.proofs.Ranks.{self_same}
 use Rattle.complex.specs.Laws.{OrderAsTold, WriteChangesOne, MasksTellModels, FacesAreSubsets}
-use Rattle.complex.specs.Model.{Model, mask, Legal}
+use Rattle.complex.specs.Model.{mask, Legal}
 use Rattle.complex.specs.Simplex.{colex}
 use Rattle.complex.proofs.Faces.{listed_is_face, face_is_listed}
 use Rattle.complex.proofs.Masks.{bit_holds}

@@ -1,5 +1,5 @@
 -- Writing one mask: that simplex has it, all others are as before, and the simplexes stay in order.
-use Rattle.std.proofs.Common.{◌≡◌, ℕ, zero, suc, ◌+◌, ◌<◌, ◌≤◌, Bool, true, false, cond, List, length, Some, None, Option, Ordering, Less, Equal, Greater, unwrap_or, sym, refl, ap, ◌∙◌, arith}
+use Rattle.std.proofs.Common.{◌≡◌, ℕ, zero, suc, ◌+◌, ◌≤◌, cond, List, length, Some, None, Option, Ordering, Less, Equal, Greater, unwrap_or, refl, ap, ◌∙◌, arith}
 use Rattle.std.proofs.lemmas.Bool.{ne_eqb}
 use Rattle.order.specs.Assoc.{by, lookup, weigh}
 use Rattle.order.proofs.Puts.{put_keeps_rising}

@@ -1,5 +1,5 @@
 -- That a model is legal is a proposition, so that a type can carry it.
-use Rattle.std.specs.Prelude.{◌≡◌, ℕ, ◌<◌, true, List}
+use Rattle.std.specs.Prelude.{ℕ, ◌<◌, true, List}
 use Rattle.std.specs.Coded.{coded_bool}
 use denote.Struct.Props.{≡_prop}
 use std.HLevel.{Π_prop}

@@ -1,5 +1,5 @@
 -- A model: the held simplexes with their masks, in the order of simplexes.
-use Rattle.std.specs.Prelude.{◌≡◌, ℕ, zero, suc, ◌^◌, ◌<◌, Bool, true, false, cond, not, ◌&&◌, List, [], ◌∷◌, length, ℤ, pos, ◌-ℤ◌, Some, None, fold, count_by, Option, ◌==◌, bit_or, nat_eq}
+use Rattle.std.specs.Prelude.{◌≡◌, ℕ, zero, suc, ◌^◌, ◌<◌, Bool, true, false, cond, not, ◌&&◌, List, length, ℤ, pos, ◌-ℤ◌, Some, None, fold, count_by, Option, ◌==◌, bit_or, nat_eq}
 use Rattle.std.specs.Option.{unwrap_or}
 use Rattle.order.specs.Assoc.{lookup, put, rising, total}
 use Rattle.order.specs.declared.record.Record.{Record}

@@ -1,20 +1,18 @@
 -- What a sound working model keeps of its first model.
-use Rattle.std.proofs.Common.{◌≡◌, ℕ, ◌<◌, Bool, true, false, cond, List, [], ◌∷◌, ◌++◌, sym, refl, ap, ◌∙◌, subst}
-use Rattle.complex.specs.Model.{Model, mask, Legal, euler}
-use Rattle.complex.specs.Simplex.{plus}
+use Rattle.std.proofs.Common.{◌≡◌, ℕ, ◌<◌, List, [], ◌∷◌, ◌++◌, sym, refl, ap, ◌∙◌, subst}
+use Rattle.complex.specs.Model.{Model, Legal, euler}
 use Rattle.collapse.specs.Image.{collapse, moved}
 use Rattle.collapse.specs.Laws.{Collapsible, Accepted}
 use Rattle.collapse.specs.Laws as laws
-use Rattle.collapse.specs.PieceLaws.{Step, Run, none, more, SamePieces}
-use Rattle.collapse.specs.Split.{pairs_of}
+use Rattle.collapse.specs.PieceLaws.{Run, none, more, SamePieces}
 use Rattle.collapse.specs.Standing.{made_by, traced}
-use Rattle.collapse.proofs.Images.{same_masks, collapse_positive, image_rule}
+use Rattle.collapse.proofs.Images.{same_masks, image_rule}
 use Rattle.collapse.proofs.Made.{collapse_sound, made_keeps}
 use Rattle.collapse.proofs.Splits.{split_inverts}
 use Rattle.collapse.proofs.Traces.{traces_keep_pieces}
 use Rattle.store.specs.Contents.{Contents, holding, Stored}
 use Rattle.store.proofs.Walks.{none_is_zero}
-use Rattle.trail.specs.Notes.{Note, note}
+use Rattle.trail.specs.Notes.{Note}
 use Rattle.history.specs.Past.{undone, first, standing}
 use Rattle.history.specs.Promise.{Promise}
 use Rattle.history.specs.Laws.{collapsed, record_of}

@@ -1,16 +1,16 @@
 -- Where the vertices of the first body have gone.
-use Rattle.std.proofs.Common.{◌≡◌, ℕ, zero, suc, ◌<◌, Bool, true, false, cond, not, ◌&&◌, ◌||◌, eqb, ◌⊎◌, List, [], ◌∷◌, sym, refl, ap, ◌∙◌, subst, inl, inr, arith}
+use Rattle.std.proofs.Common.{◌≡◌, ℕ, ◌<◌, Bool, true, false, cond, not, ◌&&◌, ◌||◌, eqb, ◌⊎◌, List, [], ◌∷◌, sym, refl, ap, ◌∙◌, subst, inl, inr, arith}
 use lib.Bits.{bit_or, or_add_and, and_le_r}
 use Rattle.std.proofs.lemmas.Bool.{cases_eq, eq-eqb, ne_eqb, eqb-true, cond-true, cond-false, or_left, or_right, or_from}
 use Rattle.complex.specs.Model.{Model, mask, Legal}
-use Rattle.complex.specs.Simplex.{has, plus, less, Face, Rising}
+use Rattle.complex.specs.Simplex.{has, plus, less, Face}
 use Rattle.complex.proofs.Masks.{bit_holds}
 use Rattle.collapse.specs.Image.{collapse}
 use Rattle.collapse.specs.Laws.{Collapsible}
 use Rattle.collapse.specs.Laws as laws
 use Rattle.collapse.specs.Standing.{traced as along}
 use Rattle.collapse.proofs.Images.{image_masks}
-use Rattle.collapse.proofs.Vertices.{has_plus, plus_rising}
+use Rattle.collapse.proofs.Vertices.{has_plus}
 use Rattle.store.specs.Contents.{Contents, Stored}
 use Rattle.trail.specs.Notes.{Note}
 use Rattle.trail.specs.Questions.{traced, merged}

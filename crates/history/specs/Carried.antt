@@ -1,16 +1,16 @@
 -- That a working model is sound is a proposition, so that a type can carry it.
-use Rattle.std.specs.Prelude.{◌≡◌, ℕ, ◌<◌, ◌≤◌, true, List, [], ◌∷◌}
+use Rattle.std.specs.Prelude.{ℕ, true, List, [], ◌∷◌}
 use Rattle.std.proofs.Math.Bridge.{le_prop}
 use Rattle.std.specs.Coded.{coded_bool, coded_ℕ, coded×, coded_list}
 use denote.Struct.Props.{≡_prop}
 use std.HLevel.{Π_prop, ⊥_prop}
 use Rattle.complex.specs.Legality.{legal_prop}
 use Rattle.complex.specs.Mask.{bit}
-use Rattle.complex.specs.Model.{Model, mask, In}
+use Rattle.complex.specs.Model.{Model, mask}
 use Rattle.complex.specs.Simplex.{plus}
 use Rattle.collapse.specs.Image.{collapse}
 use Rattle.collapse.specs.Laws.{Collapsible}
-use Rattle.collapse.specs.Link.{Base, Untied}
+use Rattle.collapse.specs.Link.{Untied}
 use Rattle.store.specs.Contents.{Contents, Stored}
 use Rattle.trail.specs.Notes.{Note}
 use Rattle.history.specs.Past.{undone}

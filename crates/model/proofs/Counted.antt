@@ -1,5 +1,5 @@
 -- The counts of an Euler number are at most the number of simplexes.
-use Rattle.std.proofs.Common.{ℕ, ◌≤◌, Bool, true, false, cond, not, ◌&&◌, List, length, arith}
+use Rattle.std.proofs.Common.{ℕ, ◌≤◌, Bool, true, false, cond, not, ◌&&◌, length, arith}
 use Rattle.order.specs.Assoc.{total}
 use Rattle.complex.specs.Mask.{bit}
 use Rattle.complex.specs.Model.{Model, odd, counts_up, counts_down}

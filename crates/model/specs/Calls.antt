@@ -1,6 +1,6 @@
 -- What the calls of a draft and a working model answer and leave, over what the store holds.
-use Rattle.std.specs.Prelude.{◌≡◌, ℕ, ◌+◌, ◌<◌, Bool, cond, not, ◌&&◌, List, [], ◌∷◌, length, ℤ, Ok, Err, Result, ◌==◌, nat_le, nat_lt}
-use Rattle.complex.specs.Model.{Model, mask, euler, lay, Laid, absent, mark, Marked, unmarked, Legal}
+use Rattle.std.specs.Prelude.{◌≡◌, ℕ, ◌+◌, cond, not, ◌&&◌, List, [], length, ℤ, Ok, Err, Result, ◌==◌, nat_le, nat_lt}
+use Rattle.complex.specs.Model.{mask, euler, lay, Laid, absent, mark, Marked, unmarked, Legal}
 use Rattle.complex.specs.Simplex.{proper, below, faces}
 use Rattle.store.specs.Contents.{Contents, holding}
 use Rattle.store.specs.Puts.{settled}

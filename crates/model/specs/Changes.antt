@@ -1,5 +1,5 @@
 -- What single puts and whole edits come to, over what a store holds.
-use Rattle.std.specs.Prelude.{◌≡◌, ℕ, zero, suc, ◌+◌, ◌^◌, ◌<◌, ◌≤◌, Bool, true, false, cond, not, ◌&&◌, List, [], ◌∷◌, length, take, drop, Some, None, Ok, Err, fold, Option, Result, ◌==◌, ◌≢◌, bit_or, nat_le, nat_lt, refl}
+use Rattle.std.specs.Prelude.{◌≡◌, ℕ, zero, suc, ◌+◌, ◌^◌, ◌<◌, ◌≤◌, Bool, true, false, cond, not, ◌&&◌, List, ◌∷◌, length, take, drop, Some, None, Ok, Err, fold, Option, Result, ◌==◌, ◌≢◌, bit_or, nat_le, nat_lt, refl}
 use Rattle.std.proofs.Common.{sym, ap, subst, ◌∙◌, arith}
 use Rattle.std.specs.Int.Bits.{or_add_and}
 use Rattle.std.proofs.lemmas.Nat.{and_le_r}
@@ -7,7 +7,7 @@ use Rattle.std.proofs.lemmas.List.Sums.{sum_by-cons}
 use Rattle.std.proofs.lemmas.Bool.{and_parts, and_from, cond-true, cond-false, eqb-true, eq-eqb, ne_eqb, le-leb, lt-ltb, ltb-true, not_from_true}
 use Rattle.complex.specs.Model.{Model, mask, write, Sorted, Legal, lay_one, lay, Laid, absent, mark_one, mark, Marked, unmarked}
 use Rattle.complex.specs.Simplex.{proper, below, rises, Rising, Face, faces}
-use Rattle.complex.proofs.Faces.{rises_rising, told, faces_distinct, face_of_itself, listed_is_face, face_below}
+use Rattle.complex.proofs.Faces.{rises_rising, told, faces_distinct, listed_is_face, face_below}
 use Rattle.complex.proofs.Lays.{lay_changes, lay_keeps_legal, lay_one_room, lays_add_the_absent}
 use Rattle.complex.proofs.Marks.{mark_changes, mark_keeps_legal, mark_one_holds, marks_add_none}
 use Rattle.complex.proofs.Masks.{bit_holds}
@@ -15,10 +15,10 @@ use Rattle.simplex.specs.Simplexes.{nth, checked}
 use Rattle.store.specs.Contents.{Contents, holding, Stored}
 use Rattle.store.specs.Puts.{settled, put_answer, put_next}
 use Rattle.store.proofs.Walks.{none_is_zero}
-use Rattle.model.specs.Calls.{parts, lay_simplex, laid_simplex, lay_answer, laid, mark_simplex, marked_simplex, mark_answer, marked, Lays, Marks}
+use Rattle.model.specs.Calls.{parts, lay_simplex, laid_simplex, lay_answer, mark_simplex, marked_simplex, mark_answer, Lays, Marks}
 use Rattle.model.specs.Walk.{stepped}
 use Rattle.model.specs.declared.refusal.ModelRefusal.{ModelRefusal}
-use Rattle.model.specs.declared.refusal.ModelRefusal.TheVariants.{Part, Vertices, Range, Held, Full, Absent}
+use Rattle.model.specs.declared.refusal.ModelRefusal.TheVariants.{Vertices, Range, Held, Full, Absent}
 use Rattle.model.specs.Walked.{folded_on, drop_nth, drop_past, nth_among}
 
 -- a put within range that needs no room, or finds some, is accepted

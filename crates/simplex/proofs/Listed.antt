@@ -1,5 +1,5 @@
 -- A list of a known length is the list of its elements.
-use Rattle.std.proofs.Common.{◌≡◌, ℕ, suc, List, [], ◌∷◌, length, get_or, refl, ap, ◌∙◌, ap₂, arith}
+use Rattle.std.proofs.Common.{◌≡◌, ℕ, List, [], ◌∷◌, length, get_or, refl, ap, arith}
 
 pub nil_is : (xs : List ℕ) → length xs ≡ 0 → [] ≡ xs
 nil_is [] h = refl

@@ -2,7 +2,7 @@
 use Rattle.std.specs.Prelude.{ℕ, zero, suc, cond, List, [], ◌∷◌, length, Some, None, Option, nat_le}
 use Rattle.std.specs.declared.cmp.Ordering.{Ordering}
 use Rattle.std.specs.Option.{option_map}
-use Rattle.complex.specs.Simplex.{colex, proper, plus}
+use Rattle.complex.specs.Simplex.{colex, proper}
 use Rattle.simplex.specs.Shapes.{corners}
 use Rattle.simplex.specs.declared.simplex.Simplex.{Simplex}
 

@@ -1,5 +1,5 @@
 -- What a store holds: a map from simplexes to masks from 1 to 255, with its limit and its range of vertices.
-use Rattle.std.specs.Prelude.{◌≡◌, ℕ, ◌≤◌, Bool, true, ◌&&◌, List, [], ◌∷◌, length, nat_lt}
+use Rattle.std.specs.Prelude.{◌≡◌, ℕ, ◌≤◌, Bool, true, ◌&&◌, [], ◌∷◌, length, nat_lt}
 use Rattle.complex.specs.Model.{Model, Sorted}
 use Rattle.complex.specs.Simplex.{proper, below}
 

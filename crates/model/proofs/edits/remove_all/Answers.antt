@@ -1,4 +1,4 @@
-use Rattle.std.proofs.Common.{ℕ, ◌<◌, [], length, sym, ap, ◌∙◌}
+use Rattle.std.proofs.Common.{[], sym, ap, ◌∙◌}
 use Rattle.simplex.specs.Simplexes.{vertices}
 use Rattle.store.specs.Contents.{holding}
 use Rattle.store.proofs.Walks.{removing_shortens, walk_ends, all_later}

@@ -1,4 +1,4 @@
-use Rattle.std.proofs.Common.{◌^◌, sym, ap, ◌∙◌, ap₂}
+use Rattle.std.proofs.Common.{sym, ap₂}
 use lib.Bits.{bit_or}
 use Rattle.complex.specs.Simplex.{faces}
 use Rattle.complex.proofs.Faces.{rises_rising, listed_is_face}

@@ -1,8 +1,7 @@
-use Rattle.std.proofs.Common.{◌≡◌, ℕ, ◌+◌, ◌<◌, ◌≤◌, [], pos, ◌-ℤ◌, sym, ap, ◌∙◌, ap₂, arith, rules}
+use Rattle.std.proofs.Common.{◌≡◌, ◌≤◌, pos, ◌-ℤ◌, ap, ◌∙◌, ap₂, arith}
 use Rattle.std.proofs.lemmas.Int.{ints}
-use Rattle.order.specs.Assoc.{later, total}
+use Rattle.order.specs.Assoc.{total}
 use Rattle.complex.specs.Model.{counts_up, counts_down}
-use Rattle.complex.specs.Simplex.{colex}
 use Rattle.simplex.specs.Simplexes.{vertices, vertices_or_none}
 use Rattle.store.proofs.Walks.{walk_step, walk_shorter, walk_ends, all_later}
 use Rattle.model.proofs.Counted.{up_few, down_few}

@@ -1,4 +1,4 @@
-use Rattle.std.proofs.Common.{◌<◌, sym, ◌∙◌, rules}
+use Rattle.std.proofs.Common.{◌<◌, rules}
 use Rattle.complex.specs.Model.{mask}
 use Rattle.simplex.specs.Simplexes.{vertices}
 use Rattle.model.specs.Changes.{faces_held}

@@ -1,6 +1,6 @@
-use Rattle.std.proofs.Common.{◌≡◌, ℕ, ◌<◌, sym, ap, ◌∙◌, subst}
+use Rattle.std.proofs.Common.{ap, ◌∙◌}
 use Rattle.simplex.specs.Simplexes.{vertices}
-use Rattle.model.specs.Calls.{Marks, mark_simplex, marked_simplex}
+use Rattle.model.specs.Calls.{mark_simplex, marked_simplex}
 use Rattle.model.specs.Changes.{marks, known_part}
 use Rattle.model.proofs.stages.Draft.mark.Goals as goal
 

@@ -1,7 +1,7 @@
 -- The first of the later records.
 use Rattle.std.proofs.Common.{◌≡◌, Some, None, sym, ap, ◌∙◌}
 use Rattle.std.proofs.lemmas.List.{at_drop_more, at_drop_all}
-use Rattle.order.specs.Assoc.{rising, later, first, next}
+use Rattle.order.specs.Assoc.{rising, first, next}
 use Rattle.table.proofs.rows.Table.after.Goals as goal
 
 pub returns-in_err-get : goal.returns-in_err-get
