@@ -4,7 +4,7 @@ use Rattle.std.specs.Ordering.{ordering_then, nat_cmp}
 use Rattle.std.proofs.lemmas.Bool.{and_parts, leb-true, cases_order}
 use Rattle.std.proofs.lemmas.Bool.Decides.{nat_tests}
 use Rattle.order.proofs.Ranks.{exchanged}
-use Rattle.complex.specs.Simplex.{colex, rises, proper, below}
+use Rattle.complex.specs.Simplex.{colex, rises, proper}
 use Rattle.complex.proofs.Order.{colex_lawful, colex_exact}
 use Rattle.grid_store.specs.Laws.{InGrid}
 use Rattle.grid_store.specs.Places.{vertex_range, places, first_place, place}
