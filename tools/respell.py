@@ -42,9 +42,11 @@ def main():
             text = file.read()
         goals.update(GOAL.findall(text))
         foreign = {n.strip() for m in FOREIGN.finditer(text) for n in m.group(1).split(",")}
-        found = [m.group(1) for line in text.split("\n") for m in [DEFINED.match(line)] if m and path.endswith(".antt")] + LOCAL.findall(text) + [a for line in text.split("\n") if re.match(r"\s*(?:ghost )?use ", line) for a in ALIAS.findall(line)]
-        for group in PARAMETERS.findall(text):
-            found += group.split()
+        found = [a for line in text.split("\n") if re.match(r"\s*(?:ghost )?use ", line) for a in ALIAS.findall(line)]
+        if path.endswith(".antt"):
+            found += [m.group(1) for line in text.split("\n") for m in [DEFINED.match(line)] if m] + LOCAL.findall(text)
+            for group in PARAMETERS.findall(text):
+                found += group.split()
         for name in found:
             if name not in foreign:
                 own[name].add(path)
