@@ -1,10 +1,11 @@
 -- What a look-up, a change and the later records come to at a key's place.
 use Rattle.std.proofs.Common.{◌≡◌, ℕ, zero, suc, ◌-◌, ◌<◌, ◌≤◌, true, false, List, [], ◌∷◌, ◌++◌, length, get_or, take, drop, is_some, Some, None, Option, Ordering, Less, Equal, Greater, sym, refl, ap, ◌∙◌, subst, ⊎_elim, arith}
 use Rattle.std.specs.Ordering.{is_lt}
+use Rattle.std.proofs.lemmas.List.{get_or_default}
 use Rattle.std.proofs.lemmas.Bool.{and_parts, cases_eq}
 use Rattle.order.specs.declared.record.Record.{Record}
 use Rattle.order.specs.Assoc.{by, Lawful, before, rising, lookup, bind, put, later}
-use Rattle.order.proofs.Ranks.{is_less}
+use Rattle.order.proofs.Ranks.{is_less, alike_right}
 use Rattle.table.specs.Places.{below}
 
 -- the record before n is less than k
@@ -55,6 +56,13 @@ module _ {K V : Type 0} (c : K → K → Ordering) where
     -- a place with a lesser record before it and none at it has all the lesser records before it
     pub place_is_below : (k : K) (rows : List (Record K V)) (n : ℕ) → n ≤ length rows → rising c rows ≡ true → Left c k rows n → Right c k rows n → n ≡ below c k rows
     place_is_below k rows n le u left right = below_is k rows n le (left_all k rows n le u left) right
+
+    -- a record with the key stands at the key's place
+    pub equal_is_below : (k : K) (rows : List (Record K V)) (n : ℕ) (d : Record K V) → n < length rows → rising c rows ≡ true → c (get_or rows n d).key k ≡ Equal → n ≡ below c k rows
+    equal_is_below k rows n d h u e = below_is k rows n (omega arith) lesser (λ x l. ap is_lt (ap (λ r. c r.key k) (get_or_default rows n x d h) ∙ e))
+      where
+        lesser : (i : ℕ) (x : Record K V) → i < n → c (get_or rows i x).key k ≡ Less
+        lesser i x l = sym (alike_right c ok _ k _ (ap (λ r. c r.key k) (get_or_default rows n x d h) ∙ e)) ∙ rising_at rows i n x u l h
 
 module _ {K V : Type 0} (c : K → K → Ordering) (k : K) where
   found_at : (rows : List (Record K V)) (d : Record K V) → below c k rows < length rows → is_some (lookup c k rows) ≡ by (c (get_or rows (below c k rows) d).key k) false true false

@@ -3,7 +3,8 @@ ghost use Rattle.std.specs.Prelude.{◌≡◌, ◌≤◌, true, length, take, dr
 ghost use Rattle.order.specs.Assoc.{rising};
 ghost use Rattle.table.specs.Changes.{PutAmong, KeepsRest, RemovedFrom};
 
-use crate::search::{front, seek};
+use crate::front::front;
+use crate::search::seek;
 use crate::shift::{close_gap, insert_at};
 use order::keys::Order;
 use order::record::Record;

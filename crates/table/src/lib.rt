@@ -2,6 +2,7 @@
 #![tactic(auto)]
 
 mod change;
+pub mod front;
 pub mod rows;
 mod search;
 mod shift;

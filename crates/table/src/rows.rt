@@ -4,7 +4,8 @@ ghost use Rattle.order.specs.Assoc.{lookup, first, next};
 ghost use Rattle.table.specs.Held.{held, room, Good, Stored, Removed};
 
 use crate::change::{put, remove};
-use crate::search::{front, past, seek};
+use crate::front::front;
+use crate::search::{past, seek};
 use order::keys::Order;
 use order::record::Record;
 

@@ -1,24 +1,11 @@
 // The search for a key among records in rising order.
-ghost use Rattle.std.specs.Prelude.{◌≡◌, ◌≤◌, true, length, take, drop};
+ghost use Rattle.std.specs.Prelude.{◌≡◌, ◌≤◌, true, length, drop};
 ghost use Rattle.order.specs.Assoc.{rising, later};
 ghost use Rattle.table.specs.Places.{below, Sought};
 
 use order::keys::Order;
 use order::record::Record;
 use std::cmp::Ordering;
-
-// The first `len` rows, or all of them where there are fewer.
-pub(crate) fn front<T>(rows: &[T], len: usize) -> &[T]
-    ensures is { result.now ≡ take len rows.now }
-    ensures short { length result.now ≤ len }
-    ensures within { length result.now ≤ length rows.now }
-{
-    if len < rows.len() {
-        &rows[0..len]
-    } else {
-        rows
-    }
-}
 
 // How many rows come before a key.
 fn place<K: Order, V>(rows: &[Record<K, V>], key: &K) -> usize

@@ -17,7 +17,7 @@ pub join-requires : goal.join-requires
 join-requires g c =
     let nodes = g.J.Joining.nodes c.args.graph.now in
     let l = c.loop-at.invariant in
-    let n = counted_some c.in-ok-n.n (length c.args.rows.now) (length nodes) c.in-ok-n.ensures.value in
+    let n = counted_some c.in_ok-n.n (length c.args.rows.now) (length nodes) c.in_ok-n.ensures.value in
     record {
       within = omega (arith, n.1, c.loop-at-test.true, ap length l.0, length-map c.loop-at.labels (λ r. r.key));
       sorted = subst (Ordered g.J.Node.Order.ranks) (sym l.0) c.count.ensures.sorted;
@@ -26,8 +26,8 @@ join-requires g c =
 pub loop-at-init : goal.loop-at-init
 loop-at-init g c =
     let nodes = g.J.Joining.nodes c.args.graph.now in
-    let n = counted_some c.in-ok-n.n (length c.args.rows.now) (length nodes) c.in-ok-n.ensures.value in
-    let front : take (c.in-ok-n.n - 0) c.list.new.rows ≡ own nodes = ap (take (c.in-ok-n.n - 0)) c.list.ensures ∙ take_at (own nodes) (drop (length nodes) c.args.rows.now) (c.in-ok-n.n - 0) (omega (arith, length-map nodes itself, n.1)) in
+    let n = counted_some c.in_ok-n.n (length c.args.rows.now) (length nodes) c.in_ok-n.ensures.value in
+    let front : take (c.in_ok-n.n - 0) c.list.new.rows ≡ own nodes = ap (take (c.in_ok-n.n - 0)) c.list.ensures ∙ take_at (own nodes) (drop (length nodes) c.args.rows.now) (c.in_ok-n.n - 0) (omega (arith, length-map nodes itself, n.1)) in
     (ap keys front ∙ keys_own nodes, ap (λ rows. gathered_from g.J.Node.Order.ranks (g.J.Joining.joins c.args.graph.now) [] rows nodes) front)
 
 pub loop-at-preserved : goal.loop-at-preserved
@@ -38,7 +38,7 @@ loop-at-preserved g c =
     let at = c.loop-at.at in
     let labels = c.loop-at.labels in
     let l = c.loop-at.invariant in
-    let n = counted_some c.in-ok-n.n (length c.args.rows.now) (length nodes) c.in-ok-n.ensures.value in
+    let n = counted_some c.in_ok-n.n (length c.args.rows.now) (length nodes) c.in_ok-n.ensures.value in
     let within : at < length labels = omega (arith, n.1, c.loop-at-test.true, ap length l.0, length-map labels (λ r. r.key)) in
     let d = one_of labels at within in
     let is = c.join.ensures d ∙ ap (λ front. joined_on rank J (take at front) labels (get_or labels at d).key) l.0 in
@@ -54,25 +54,25 @@ returns g c =
     let labels = c.loop-at.labels in
     let rows = c.args.rows.now in
     let l = c.loop-at.invariant in
-    let n = counted_some c.in-ok-n.n (length rows) (length nodes) c.in-ok-n.ensures.value in
+    let n = counted_some c.in_ok-n.n (length rows) (length nodes) c.in_ok-n.ensures.value in
     let all : labels ≡ gathered rank J nodes = ap (gathered_from rank J (take at nodes) labels) (sym (drop_all at nodes (omega (arith, n.1, c.loop-at-test.false)))) ∙ l.1 in
-    let rest : drop (c.in-ok-n.n - 0) c.list.new.rows ≡ drop (length nodes) rows = ap (drop (c.in-ok-n.n - 0)) c.list.ensures ∙ drop_at (own nodes) (drop (length nodes) rows) (c.in-ok-n.n - 0) (omega (arith, length-map nodes itself, n.1)) in
+    let rest : drop (c.in_ok-n.n - 0) c.list.new.rows ≡ drop (length nodes) rows = ap (drop (c.in_ok-n.n - 0)) c.list.ensures ∙ drop_at (own nodes) (drop (length nodes) rows) (c.in_ok-n.n - 0) (omega (arith, length-map nodes itself, n.1)) in
     record {
-      value = ap (λ m. Some (classes m c.count-own.result)) n.1 ∙ ap (λ k. Some (classes (length nodes) k)) (c.count-own.ensures ∙ ap (class_count rank) all) ∙ sym (cond-true _ (Some (classes (length nodes) (class_count rank (gathered rank J nodes)))) None n.0);
-      after = ap (λ front. front ++ drop (c.in-ok-n.n - 0) c.list.new.rows) all ∙ ap (λ rest. gathered rank J nodes ++ rest) rest ∙ sym (cond-true _ (gathered rank J nodes ++ drop (length nodes) rows) rows n.0);
+      value = ap (λ m. Some (classes m c.count_own.result)) n.1 ∙ ap (λ k. Some (classes (length nodes) k)) (c.count_own.ensures ∙ ap (class_count rank) all) ∙ sym (cond-true _ (Some (classes (length nodes) (class_count rank (gathered rank J nodes)))) None n.0);
+      after = ap (λ front. front ++ drop (c.in_ok-n.n - 0) c.list.new.rows) all ∙ ap (λ rest. gathered rank J nodes ++ rest) rest ∙ sym (cond-true _ (gathered rank J nodes ++ drop (length nodes) rows) rows n.0);
       classed = gathered_classed rank (record { flip = m.flip; chain = m.chain; alike = m.alike }) nodes c.count.ensures.sorted J (g.J.Joining.both c.args.graph.now);
     }
 
-pub returns-in-err-n : goal.returns-in-err-n
-returns-in-err-n g c =
+pub returns-in_err-n : goal.returns-in_err-n
+returns-in_err-n g c =
     let m = g.met.J.Node.Order in
     let rank = g.J.Node.Order.ranks in
     let J = g.J.Joining.joins c.args.graph.now in
     let nodes = g.J.Joining.nodes c.args.graph.now in
     let rows = c.args.rows.now in
-    let short = counted_none (length rows) (length nodes) c.in-err-n.ensures.value in
+    let short = counted_none (length rows) (length nodes) c.in_err-n.ensures.value in
     record {
-      value = c.from-residual.ensures ∙ sym (cond-false _ (Some (classes (length nodes) (class_count rank (gathered rank J nodes)))) None short);
+      value = c.from_residual.ensures ∙ sym (cond-false _ (Some (classes (length nodes) (class_count rank (gathered rank J nodes)))) None short);
       after = sym (cond-false _ (gathered rank J nodes ++ drop (length nodes) rows) rows short);
       classed = gathered_classed rank (record { flip = m.flip; chain = m.chain; alike = m.alike }) nodes c.count.ensures.sorted J (g.J.Joining.both c.args.graph.now);
     }

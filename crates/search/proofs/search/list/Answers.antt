@@ -1,5 +1,5 @@
 -- Each turn puts the next node behind those that the table holds.
-use Rattle.std.proofs.Common.{◌≡◌, ◌<◌, true, cond, ◌||◌, ltb, List, [], ◌∷◌, ◌++◌, length, take, drop, is_some, Some, sym, refl, ap, ◌∙◌, append_assoc, append-nil, arith, rules}
+use Rattle.std.proofs.Common.{◌≡◌, ◌<◌, cond, ltb, [], ◌∷◌, ◌++◌, length, drop, is_some, Some, sym, refl, ap, ◌∙◌, append_assoc, append-nil, arith, rules}
 use Rattle.std.proofs.lemmas.List.{length-map, length-append, length-take-le, take-append-drop}
 use Rattle.std.proofs.lemmas.Bool.{lt-ltb, or_right}
 use Rattle.order.specs.Assoc.{rising, lookup, put}
@@ -50,7 +50,7 @@ returns g c =
     let t = c.loop-node.table in
     let l = c.loop-node.invariant in
     let named = l.5 ∙ c.open-table.ensures.lender in
-    let none = nothing_left _ (sym (c.in-default.ensures.next l.1)) in
+    let none = nothing_left _ (sym (c.in_default.ensures.next l.1)) in
     let all : held t ≡ own nodes = sym (append-nil (held t)) ∙ sym (ap (λ rows. held t ++ rows) none) ∙ l.0 in
     let used : t.len ≡ length nodes = sym (length-take-le t.len t.records.now l.2.0) ∙ ap length all ∙ length-map nodes itself in
     let is : t.records.now ≡ own nodes ++ drop (length nodes) c.args.rows.now =

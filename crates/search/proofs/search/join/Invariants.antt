@@ -1,5 +1,5 @@
 -- The earlier nodes from a place on are left to be joined.
-use Rattle.std.proofs.Common.{◌≡◌, ◌-◌, ◌≤◌, length, get_or, take, drop, fold, filter}
+use Rattle.std.proofs.Common.{◌≡◌, ◌-◌, take, drop, fold, filter}
 use Rattle.search.specs.Nodes.{keys}
 use Rattle.search.specs.Classes.{united, joined_on}
 use Rattle.search.proofs.search.join.Given as goal

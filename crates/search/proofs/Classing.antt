@@ -1,9 +1,9 @@
 -- The labels that are gathered are the least nodes of the classes.
 use Rattle.std.proofs.Common.{◌≡◌, Bool, true, false, cond, ◌⊎◌, List, [], ◌∷◌, ◌++◌, Some, None, fold, filter, Option, Ordering, Less, Equal, Greater, sym, refl, ap, ◌∙◌, subst, inl, inr, append_assoc}
-use Rattle.std.specs.Ordering.{is_eq, is_lt, ordering_reverse}
-use Rattle.std.proofs.lemmas.Bool.{and_parts, cond-true, cond-false, true≢false}
+use Rattle.std.specs.Ordering.{is_eq, is_lt}
+use Rattle.std.proofs.lemmas.Bool.{and_parts, cond-true, true≢false}
 use Rattle.order.specs.Assoc.{by, Lawful, before, lookup}
-use Rattle.order.specs.Chain.{Chain, here, step}
+use Rattle.order.specs.Chain.{here, step}
 use Rattle.order.specs.declared.record.Record.{Record}
 use Rattle.order.proofs.Chains.{chain_then, chain_back}
 use Rattle.order.proofs.Ranks.{is_less, self_same, exchanged}

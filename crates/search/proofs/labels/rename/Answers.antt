@@ -1,5 +1,5 @@
 -- A turn writes the relabelled record over the one that it reads.
-use Rattle.std.proofs.Common.{◌≡◌, ◌++◌, drop, set, sym, ap, ◌∙◌, append-nil, arith}
+use Rattle.std.proofs.Common.{◌++◌, drop, set, sym, ap, ◌∙◌, append-nil}
 use Rattle.std.proofs.lemmas.List.Edits.{map_over_more}
 use Rattle.std.proofs.lemmas.List.{take_all, drop_all}
 use Rattle.search.specs.Classes.{relabelled, renamed}

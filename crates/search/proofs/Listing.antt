@@ -1,5 +1,5 @@
 -- The nodes are listed in a table one after another.
-use Rattle.std.proofs.Common.{◌≡◌, true, List, [], ◌∷◌, ◌++◌, Some, None, Ordering, Less, sym, refl, ap, ◌∙◌}
+use Rattle.std.proofs.Common.{◌≡◌, true, List, [], ◌∷◌, ◌++◌, Some, Ordering, Less, refl, ap, ◌∙◌}
 use Rattle.std.proofs.lemmas.Bool.{and_parts}
 use Rattle.order.specs.Assoc.{by, before, rising, put, bind}
 use Rattle.order.specs.declared.record.Record.{Record}

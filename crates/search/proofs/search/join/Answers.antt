@@ -36,5 +36,5 @@ returns g c e =
     let from = c.loop-place.from in
     let J = g.J.Joining.joins c.args.graph.now in
     let l = c.loop-place.invariant in
-    let told = next_told rank ok (J (get_or old at d).key) old rows at d l.0 c.requires.sorted c.requires.within c.front.result.now c.front.ensures.is from None c.in-default.ensures.joined in
+    let told = next_told rank ok (J (get_or old at d).key) old rows at d l.0 c.requires.sorted c.requires.within c.front.result.now c.front.ensures.is from None c.in_default.ensures.joined in
     sym (joins_end rank ok (J (get_or old at d).key) old rows at d l.0 c.requires.sorted c.requires.within from told) ∙ l.1 ∙ ap (λ r. joined_on rank J (take at (keys old)) old r.key) (get_or_default old at d e c.requires.within)

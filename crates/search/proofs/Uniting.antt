@@ -1,5 +1,5 @@
 -- One node after another is joined with the earlier nodes.
-use Rattle.std.proofs.Common.{◌≡◌, ℕ, zero, suc, ◌+◌, ◌<◌, Bool, true, false, cond, ◌&&◌, List, [], ◌∷◌, ◌++◌, map, length, get_or, take, drop, Some, None, fold, filter, Option, Ordering, Less, Equal, Greater, sym, refl, ap, ◌∙◌, subst, arith}
+use Rattle.std.proofs.Common.{◌≡◌, ℕ, zero, suc, ◌+◌, ◌<◌, Bool, true, false, cond, ◌&&◌, List, [], ◌∷◌, length, get_or, take, drop, Some, None, fold, filter, Option, Ordering, Less, Equal, Greater, sym, refl, ap, ◌∙◌, subst, arith}
 use Rattle.std.specs.Ordering.{is_eq, is_lt}
 use Rattle.std.proofs.lemmas.List.{length-map, get_or-map, get_or-take, map_more, take-map}
 use Rattle.std.proofs.lemmas.Bool.{and_parts, and_from}
@@ -7,7 +7,7 @@ use Rattle.order.specs.Assoc.{by, Lawful, before, rising, lookup}
 use Rattle.order.specs.declared.record.Record.{Record}
 use Rattle.order.proofs.Ranks.{self_same}
 use Rattle.table.proofs.Places.{equal_is_below, found_equal, lookup_found}
-use Rattle.search.specs.Classes.{relabelled, renamed, lessened, merged, united}
+use Rattle.search.specs.Classes.{renamed, lessened, merged, united}
 use Rattle.search.specs.Nodes.{own, Ordered, keys, Leads, NextJoined}
 
 module _ {N : Type 0} (c : N → N → Ordering) where
