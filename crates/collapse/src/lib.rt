@@ -5,3 +5,4 @@ pub mod cases;
 pub mod extended;
 pub mod laws;
 pub mod pieces;
+pub mod ties;

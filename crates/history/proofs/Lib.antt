@@ -1,3 +1,4 @@
 pub mod Fitted
 pub mod Sounds
 pub mod Traced
+pub mod Stays

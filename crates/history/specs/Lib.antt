@@ -1,3 +1,4 @@
+pub mod State
 pub mod Past
 pub mod Sound
 pub mod Carried

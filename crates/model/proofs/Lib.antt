@@ -1,9 +1,4 @@
-pub mod Counted
-pub mod Tying
-pub mod Failing
-pub mod Noting
-pub mod Bases
-pub mod Noted
-pub mod Merging
-pub mod Passing
-pub mod Splitting
+pub mod Passed
+pub mod Collapsing
+pub mod Restoring
+pub mod Tracing

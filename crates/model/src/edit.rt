@@ -1,23 +1,26 @@
-// A change of what a store holds.
+// A change of a model.
 ghost use Rattle.std.specs.Prelude.{◌≡◌};
-ghost use Rattle.complex.specs.Model.{Legal};
-ghost use Rattle.store.specs.Contents.{Contents, Stored};
+ghost use Rattle.store.specs.Contents.{Stored};
+ghost use Rattle.trail.specs.Past.{past};
+ghost use Rattle.history.specs.State.{State, state};
+ghost use Rattle.history.specs.Sound.{Sound};
 
 use store::meaning::Store;
+use trail::trail::Trail;
 
-// One call that changes: its answer, what is held after it, that it keeps a legal model legal, and the code that does
-// it in every store. On the way the model need not be legal.
+// One call that changes: its answer, the state after it, that it keeps a sound model sound, and the code that does it in
+// every store. On the way the model need not be sound.
 pub trait Edit {
     type Out;
 
-    ghost answer: { Self → Contents → Self.Out };
+    ghost answer: { Self → State → Self.Out };
 
-    ghost next: { Self → Contents → Contents };
+    ghost next: { Self → State → State };
 
-    fn run<S: Store>(&self, store: &mut S) -> Self::Out
-        requires { Legal (S.Store.contents store.old).model }
-        ensures value { result ≡ answer self.now (S.Store.contents store.old) }
-        ensures after { S.Store.contents store.new ≡ next self.now (S.Store.contents store.old) };
+    fn run<S: Store>(&self, store: &mut S, trail: &mut Trail) -> Self::Out
+        requires { Sound (S.Store.contents store.old) (past trail.old) }
+        ensures value { result ≡ answer self.now (state (S.Store.contents store.old) (past trail.old)) }
+        ensures after { state (S.Store.contents store.new) (past trail.new) ≡ next self.now (state (S.Store.contents store.old) (past trail.old)) };
 
-    ghost keeps: { (e : Self) (c : Contents) → Stored c → Legal c.model → Legal (next e c).model };
+    ghost keeps: { (e : Self) (s : State) → Stored s.holds → Sound s.holds s.past → Sound (next e s).holds (next e s).past };
 }

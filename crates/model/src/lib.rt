@@ -1,16 +1,9 @@
-// The model level: drafts and working models over every store, and what they can be asked.
+// The model level: what a model is, what may change it, and what it refuses.
 #![tactic(auto)]
 
 pub mod edit;
-pub mod edits;
-pub mod faces;
 pub mod holder;
-mod merges;
-mod notes;
+pub mod number;
 pub mod part;
-mod plus;
-pub mod questions;
+pub mod recorded;
 pub mod refusal;
-mod splits;
-pub mod stages;
-pub mod ties;

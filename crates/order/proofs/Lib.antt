@@ -2,4 +2,5 @@ pub mod Ranks
 pub mod Puts
 pub mod Maps
 pub mod Laters
+pub mod Passing
 pub mod Chains

@@ -2,6 +2,7 @@
 #![tactic(auto)]
 
 pub mod answers;
+pub mod command;
 pub mod lines;
 pub mod program;
 pub mod refusal;

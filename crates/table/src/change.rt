@@ -9,17 +9,19 @@ use crate::shift::{close_gap, insert_at};
 use order::keys::Order;
 use order::record::Record;
 
-// How many records are in use after a key is given a value, or None where it is new and no record is free.
+// How many records are in use after a key is given a value, or None where it is new and no record is free. The key is
+// looked for at `near` first.
 pub(crate) fn put<K: Order + Copy, V: Copy>(
     rows: &mut [Record<K, V>],
     len: usize,
+    near: usize,
     key: K,
     value: V,
 ) -> Option<usize>
     ensures rest { KeepsRest len rows.old rows.new result }
     ensures does { len ≤ length rows.old → rising K.Order.ranks (take len rows.old) ≡ true → PutAmong K.Order.ranks key value len rows.old rows.new result }
 {
-    match seek(front(rows, len), &key) {
+    match seek(front(rows, len), &key, near) {
         Ok(at) => {
             rows[at] = Record { key, value };
             Some(len)
@@ -32,10 +34,11 @@ pub(crate) fn put<K: Order + Copy, V: Copy>(
     }
 }
 
-// How many records are in use after a key is taken out.
+// How many records are in use after a key is taken out. The key is looked for at `near` first.
 pub(crate) fn remove<K: Order + Copy, V: Copy>(
     rows: &mut [Record<K, V>],
     len: usize,
+    near: usize,
     key: &K,
 ) -> usize
     ensures rest { drop len rows.new ≡ drop len rows.old }
@@ -43,7 +46,7 @@ pub(crate) fn remove<K: Order + Copy, V: Copy>(
 {
     let used = front(rows, len);
     let n = used.len();
-    match seek(used, key) {
+    match seek(used, key, near) {
         Ok(at) => {
             close_gap(rows, at, n);
             n - 1

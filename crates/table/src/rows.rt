@@ -8,12 +8,15 @@ use crate::front::front;
 use crate::search::{past, seek};
 use order::keys::Order;
 use order::record::Record;
+use std::cell::Cell;
 
-// Records that the caller lends; the first `len` are in use, in rising order of their keys.
+// Records that the caller lends; the first `len` are in use, in rising order of their keys. `near` is the place of the
+// last key that `after` answered: a walk then finds each key at once. No answer depends on it.
 #[derive(Drop)]
 pub struct Table<'a, K, V> {
     pub records: &'a mut [Record<K, V>],
     pub len: usize,
+    near: Cell<usize>,
 }
 
 impl<'a, K: Order + Copy, V: Copy> Table<'a, K, V> {
@@ -25,7 +28,11 @@ impl<'a, K: Order + Copy, V: Copy> Table<'a, K, V> {
         ensures len { result.len ≡ 0 }
         ensures lender { result.records.ghost_name ≡ records.entry.ghost_name }
     {
-        Table { records, len: 0 }
+        Table {
+            records,
+            len: 0,
+            near: Cell::new(0),
+        }
     }
 
     // The value at a key.
@@ -33,7 +40,7 @@ impl<'a, K: Order + Copy, V: Copy> Table<'a, K, V> {
         ensures { Good K.Order.ranks self.now → result ≡ lookup K.Order.ranks key.now (held self.now) }
     {
         let rows = front(self.records, self.len);
-        match seek(rows, key) {
+        match seek(rows, key, self.near.get()) {
             Ok(at) => Some(rows[at].value),
             Err(_) => None,
         }
@@ -44,7 +51,10 @@ impl<'a, K: Order + Copy, V: Copy> Table<'a, K, V> {
         ensures { result ≡ first (held self.now) }
     {
         match front(self.records, self.len) {
-            [record, ..] => Some(record.key),
+            [record, ..] => {
+                self.near.set(0);
+                Some(record.key)
+            }
             [] => None,
         }
     }
@@ -54,7 +64,9 @@ impl<'a, K: Order + Copy, V: Copy> Table<'a, K, V> {
         ensures { Good K.Order.ranks self.now → result ≡ next K.Order.ranks key.now (held self.now) }
     {
         let rows = front(self.records, self.len);
-        Some(rows.get(past(rows, key))?.key)
+        let at = past(rows, key, self.near.get());
+        self.near.set(at);
+        Some(rows.get(at)?.key)
     }
 
     // Gives a key a value; false where the key is new and no record is free.
@@ -66,7 +78,8 @@ impl<'a, K: Order + Copy, V: Copy> Table<'a, K, V> {
         ensures does { Good K.Order.ranks self.old → Stored K.Order.ranks key value self.old self.new result }
     {
         let len = self.len;
-        match put(self.records, len, key, value) {
+        let near = self.near.get();
+        match put(self.records, len, near, key, value) {
             Some(n) => {
                 self.len = n;
                 true
@@ -83,6 +96,7 @@ impl<'a, K: Order + Copy, V: Copy> Table<'a, K, V> {
         ensures does { Good K.Order.ranks self.old → Removed K.Order.ranks key.now self.old self.new }
     {
         let len = self.len;
-        self.len = remove(self.records, len, key);
+        let near = self.near.get();
+        self.len = remove(self.records, len, near, key);
     }
 }

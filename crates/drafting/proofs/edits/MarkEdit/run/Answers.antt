@@ -1,0 +1,14 @@
+use Rattle.std.proofs.Common.{◌<◌, rules}
+use Rattle.complex.specs.Model.{mask}
+use Rattle.simplex.specs.Simplexes.{vertices}
+use Rattle.trail.specs.Past.{past}
+use Rattle.history.proofs.Sounds.{sound_legal}
+use Rattle.drafting.specs.Changes.{faces_held}
+use Rattle.drafting.proofs.edits.MarkEdit.run.Goals as goal
+
+pub mark_faces-requires : goal.mark_faces-requires
+mark_faces-requires g c =
+    let before = g.S.Store.contents c.args.store.now in
+    let s = vertices c.args.self.now.simplex in
+    let held : 0 < mask before.model s = search rules in
+    record { range = search rules; held = faces_held before.model s (sound_legal (past c.args.trail.now) before (g.S.Store.stored c.args.store.now) c.requires) held }
