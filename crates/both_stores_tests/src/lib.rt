@@ -8,9 +8,9 @@ mod tests {
     use holders::table_holder::TableHolder;
     use model::holder::Holder;
     use model::refusal::ModelRefusal;
+    use model::stages::Draft;
     use order::record::Record;
     use simplex::simplex::Simplex;
-    use stages::draft::Draft;
     use table_store::records::TableStore;
 
     // A refusal by its number.

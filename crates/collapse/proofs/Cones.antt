@@ -1,10 +1,11 @@
 -- The link conditions of the body and all parts are one condition in the body extended by dummies.
 use Rattle.std.proofs.Common.{◌≡◌, ℕ, zero, suc, ◌<◌, ◌≤◌, true, false, eqb, ◌⊎◌, List, [], ◌∷◌, length, sym, refl, ap, ◌∙◌, inl, inr, arith}
 use Rattle.std.proofs.lemmas.Bool.{or_cases, or_left, or_right}
-use Rattle.complex.specs.Model.{Model, mask, In, Legal, Shaped}
+use Rattle.complex.specs.Model.{Model, mask, In, Legal}
 use Rattle.complex.specs.Simplex.{has, plus, Rising, Face}
 use Rattle.complex.proofs.Masks.{bit_holds}
 use Rattle.collapse.specs.Link.{Base, Link, Untied}
+use Rattle.collapse.specs.Laws.{Shaped}
 use Rattle.collapse.specs.Extended.{Extended, plain, cone, Extension, VertexLink, EdgeLink, LinksMeet, ExtendedLink}
 use Rattle.collapse.proofs.Vertices.{plus_rising, plus_some, has_plus, plus_comm}
 

@@ -9,14 +9,14 @@ use Rattle.order.proofs.Maps.{lookup_before, total_put}
 use Rattle.order.proofs.Puts.{before_alike, before_all}
 use Rattle.order.proofs.Ranks.{self_same}
 use Rattle.complex.specs.Mask.{bit}
-use Rattle.complex.specs.Model.{Model, mask, present, write, Sorted, Legal, odd, counts_up, counts_down, euler, Positive, Shaped}
+use Rattle.complex.specs.Model.{Model, mask, present, write, Sorted, Legal, odd, counts_up, counts_down, euler}
 use Rattle.complex.specs.Simplex.{colex, has, plus, rises, Rising}
 use Rattle.complex.proofs.Faces.{rises_rising}
 use Rattle.complex.proofs.Masks.{bit_of_or, bit_of_none}
 use Rattle.complex.proofs.Order.{colex_lawful, colex_exact}
 use Rattle.complex.proofs.Writes.{mask_write, write_keeps_order}
 use Rattle.collapse.specs.Image.{less, collapse}
-use Rattle.collapse.specs.Laws.{merged, CollapseKeepsEuler}
+use Rattle.collapse.specs.Laws.{Positive, Shaped, merged, CollapseKeepsEuler}
 use Rattle.collapse.specs.Link.{Base}
 use Rattle.collapse.proofs.Images.{Listed, held_listed, lookup_listed, same_masks, image_masks, image_rule}
 use Rattle.collapse.proofs.Legals.{link_bits}

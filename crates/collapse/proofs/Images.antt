@@ -9,14 +9,14 @@ use Rattle.order.specs.declared.record.Record.{Record}
 use Rattle.order.proofs.Maps.{lookup_put, same_lookups}
 use Rattle.order.proofs.Ranks.{is_less, self_same}
 use Rattle.complex.specs.Mask.{bit}
-use Rattle.complex.specs.Model.{Model, mask, present, write, Sorted, In, Legal, Positive, Shaped}
+use Rattle.complex.specs.Model.{Model, mask, present, write, Sorted, In, Legal}
 use Rattle.complex.specs.Simplex.{colex, has, plus, Rising}
 use Rattle.complex.proofs.Masks.{bit_of_or, bit_of_none, bit_holds}
 use Rattle.complex.proofs.Order.{colex_lawful, colex_exact}
 use Rattle.complex.proofs.Faces.{same_simplex, same_as_itself}
 use Rattle.complex.proofs.Writes.{mask_write, write_keeps_order}
 use Rattle.collapse.specs.Image.{less, image, image_one, collapse, Collapsed}
-use Rattle.collapse.specs.Laws.{merged, Merged, ImageRule, ImageUnique, ImageMasks}
+use Rattle.collapse.specs.Laws.{Positive, Shaped, merged, Merged, ImageRule, ImageUnique, ImageMasks}
 use Rattle.collapse.proofs.Vertices.{image_none, image_rising, swapped, swapped_back, replaced_has_u, replaced_lacks_v, replaced_face}
 
 -- the bits tell a mask

@@ -4,11 +4,11 @@ use lib.Bits.{bit_and, and_lt}
 use Rattle.std.proofs.lemmas.Bool.{and_from, cases_Bool, cases_eq}
 use Rattle.std.proofs.lemmas.Bool.Decides.{nat_tests}
 use Rattle.complex.specs.Mask.{bit}
-use Rattle.complex.specs.Model.{Model, mask, In, Legal, Shaped}
+use Rattle.complex.specs.Model.{Model, mask, In, Legal}
 use Rattle.complex.specs.Simplex.{has, plus, Rising, Face}
 use Rattle.complex.proofs.Masks.{bit_holds}
 use Rattle.collapse.specs.Image.{less, image, collapse, Collapsed}
-use Rattle.collapse.specs.Laws.{Exact, CollapseKeepsLegal, UntiedIsExact}
+use Rattle.collapse.specs.Laws.{Shaped, Exact, CollapseKeepsLegal, UntiedIsExact}
 use Rattle.collapse.specs.Link.{Base, Link, Untied}
 use Rattle.collapse.proofs.Images.{bit_of_and, same_bits, some_bit, image_rule}
 use Rattle.collapse.proofs.Vertices.{plus_rising, less_rising, has_plus, has_less, has_image, image_none, image_rising, plus_some, swapped}

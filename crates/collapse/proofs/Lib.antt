@@ -7,6 +7,4 @@ pub mod Made
 pub mod Chains
 pub mod Traces
 pub mod Cones
-pub mod Taken
-pub mod Tying
 pub mod Worked

@@ -1,10 +1,10 @@
 -- What one accepted collapse keeps, a list of them keeps.
 use Rattle.std.proofs.Common.{◌≡◌, ℕ, ◌<◌, Bool, true, false, cond, ◌⊎◌, List, [], ◌∷◌, refl, ◌∙◌, inl, inr, arith}
 use lib.Bits.{bit_or, or_lt}
-use Rattle.complex.specs.Model.{Model, mask, Narrow}
+use Rattle.complex.specs.Model.{Model, mask}
 use Rattle.complex.specs.Simplex.{has, plus, Rising}
 use Rattle.collapse.specs.Image.{less, collapse}
-use Rattle.collapse.specs.Laws.{Sound, merged, MadeKeeps}
+use Rattle.collapse.specs.Laws.{Sound, Narrow, merged, MadeKeeps}
 use Rattle.collapse.proofs.Eulers.{collapse_keeps_euler}
 use Rattle.collapse.proofs.Images.{collapse_positive, image_masks, image_rule}
 use Rattle.collapse.proofs.Legals.{collapse_keeps_legal}

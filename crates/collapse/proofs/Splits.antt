@@ -3,11 +3,11 @@ use Rattle.std.proofs.Common.{◌≡◌, ℕ, zero, suc, ◌<◌, Bool, true, fa
 use lib.Bits.{bit_or, bit_and, or_add_and, and_le_l, and_le_r}
 use Rattle.std.proofs.lemmas.Bool.{cases_Bool, true≢false}
 use Rattle.order.specs.declared.record.Record.{Record}
-use Rattle.complex.specs.Model.{Model, mask, write, Sorted, Positive, Shaped}
+use Rattle.complex.specs.Model.{Model, mask, write, Sorted}
 use Rattle.complex.specs.Simplex.{has, plus, Rising}
 use Rattle.complex.proofs.Writes.{write_keeps_order}
 use Rattle.collapse.specs.Image.{less, collapse}
-use Rattle.collapse.specs.Laws.{Exact, merged, SplitInverts}
+use Rattle.collapse.specs.Laws.{Positive, Shaped, Exact, merged, SplitInverts}
 use Rattle.collapse.specs.Link.{Base}
 use Rattle.collapse.specs.Split.{bases, former, pairs_of, split_one, split_each, split}
 use Rattle.collapse.proofs.Eulers.{Bases, Member, not_held, over_u, over_v, over_both, over_else}

@@ -1,9 +1,9 @@
 -- A vertex added to a rising list, taken away, replaced: which vertices the list has then.
-use Rattle.std.proofs.Common.{◌≡◌, ℕ, suc, ◌<◌, ◌≤◌, Bool, true, false, cond, not, ◌&&◌, ◌||◌, eqb, ltb, ◌⊎◌, List, [], ◌∷◌, length, Ordering, Less, Equal, Greater, sym, refl, ap, ◌∙◌, inl, inr, arith}
-use Rattle.std.proofs.lemmas.Bool.{and_from, and_parts, lt-ltb, true≢false}
+use Rattle.std.proofs.Common.{◌≡◌, ℕ, suc, ◌<◌, ◌≤◌, Bool, true, false, cond, not, ◌&&◌, ◌||◌, eqb, ◌⊎◌, List, [], ◌∷◌, length, Ordering, Less, Equal, Greater, sym, refl, ap, ◌∙◌, inl, inr, arith}
+use Rattle.std.proofs.lemmas.Bool.{and_from, lt-ltb, true≢false}
 use Rattle.std.proofs.lemmas.Bool.Decides.{nat_tests}
 use Rattle.order.proofs.Ranks.{self_same}
-use Rattle.complex.specs.Simplex.{Under, Rising, Face, has, plus, rises, below, colex}
+use Rattle.complex.specs.Simplex.{Under, Rising, Face, has, plus, rises, colex}
 use Rattle.complex.proofs.Faces.{under_lacks, rises_rising}
 use Rattle.complex.proofs.Order.{colex_lawful, colex_exact}
 use Rattle.collapse.specs.Image.{less, image}
@@ -220,12 +220,3 @@ module _ (u v : ℕ) (n : u ≡ v → ⊥) where
 
     pub rest_of_both : rest u v (plus u (plus v s)) ≡ s
     rest_of_both = rw (plus_comm u v s base.rising, less_plus v (plus u s) (plus_rising u s base.rising) with_u_lacks_v) (less_plus u s base.rising base.no_u)
-
--- the vertices stay in range
-pub below_less : (n v : ℕ) (s : List ℕ) → below n s ≡ true → below n (less v s) ≡ true
-below_less n v [] h = refl
-below_less n v (x ∷ s) h = let i = below_less n v s (and_parts (ltb x n) (below n s) h).1 in grind arith
-
-pub below_plus : (n u : ℕ) (s : List ℕ) → below n (u ∷ []) ≡ true → below n s ≡ true → below n (plus u s) ≡ true
-below_plus n u [] l h = l
-below_plus n u (x ∷ s) l h = let i = below_plus n u s l (and_parts (ltb x n) (below n s) h).1 in grind (arith, nat_tests)

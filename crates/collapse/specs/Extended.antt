@@ -1,9 +1,9 @@
 -- The body extended by one dummy vertex for each part: the cone from it over that part.
 use Rattle.std.specs.Prelude.{◌≡◌, ℕ, ◌<◌, ◌≤◌, false, ◌⊎◌, List, [], ◌∷◌, ◌≢◌}
-use Rattle.complex.specs.Mask.{parts}
-use Rattle.complex.specs.Model.{Model, mask, In, Legal, Shaped}
+use Rattle.complex.specs.Model.{Model, mask, In, Legal}
 use Rattle.complex.specs.Simplex.{has, plus}
 use Rattle.collapse.specs.Link.{Untied}
+use Rattle.collapse.specs.Laws.{Shaped}
 
 -- vertices of the body, alone or with the dummy of part p
 pub data Extended : Type 0 where
@@ -24,7 +24,7 @@ added x (cone p s) = cone p (plus x s)
 -- the parts from `low` on have a dummy: all eight where it is 0, all but the body where it is 1
 abbrev pub Extension : ℕ → Model → Extended → Type 0
 Extension low M (plain s) = In 0 M s
-Extension low M (cone p s) = (low ≤ p) × (p < parts) × ((s ≡ []) ⊎ In p M s)
+Extension low M (cone p s) = (low ≤ p) × (p < 8) × ((s ≡ []) ⊎ In p M s)
 
 -- t is in the link of the vertex x
 pub record VertexLink (low : ℕ) (M : Model) (x : ℕ) (t : Extended) : Type 0 where

@@ -1,12 +1,24 @@
 -- The laws of collapse and split.
-use Rattle.std.specs.Prelude.{◌≡◌, ℕ, ◌<◌, cond, List, [], ◌∷◌, ◌≢◌, bit_and, bit_or}
-use Rattle.complex.specs.Mask.{parts}
-use Rattle.complex.specs.Model.{Model, mask, Sorted, Positive, Shaped, Narrow, Legal, euler}
-use Rattle.complex.specs.Simplex.{has, plus, Rising}
+use Rattle.std.specs.Prelude.{◌≡◌, ℕ, ◌<◌, ◌≤◌, cond, List, [], ◌∷◌, length, Some, ◌≢◌, bit_and, bit_or}
+use Rattle.order.specs.Assoc.{lookup}
+use Rattle.complex.specs.Model.{Model, mask, Sorted, Legal, euler}
+use Rattle.complex.specs.Simplex.{colex, has, plus, Rising}
 use Rattle.collapse.specs.Image.{less, collapse, Collapsed}
 use Rattle.collapse.specs.Link.{Base, Link, Untied}
 use Rattle.collapse.specs.Split.{pairs_of, split}
 use Rattle.collapse.specs.Standing.{made_by}
+
+-- no record has the mask 0
+abbrev pub Positive : Model → Type 0
+Positive M = (s : List ℕ) → lookup colex s M ≢ Some 0
+
+-- every held simplex has one to four vertices, in rising order
+abbrev pub Shaped : Model → Type 0
+Shaped M = (s : List ℕ) → 0 < mask M s → Rising s × (0 < length s) × (length s ≤ 4)
+
+-- every mask has eight bits
+abbrev pub Narrow : Model → Type 0
+Narrow M = (s : List ℕ) → mask M s < 256
 
 -- what a working model is at all times
 pub record Sound (M : Model) : Type 0 where
@@ -70,4 +82,4 @@ Accepted M (k ∷ ks) = Collapsible k.0 k.1 M × Accepted (collapse k.0 k.1 M) k
 
 -- a list of accepted collapses makes a sound model with the Euler numbers of the first
 abbrev pub MadeKeeps : Type 0
-MadeKeeps = (M : Model) (ks : List (ℕ × ℕ)) → Sound M → Accepted M ks → Sound (made_by M ks) × ((p : ℕ) → p < parts → euler p (made_by M ks) ≡ euler p M)
+MadeKeeps = (M : Model) (ks : List (ℕ × ℕ)) → Sound M → Accepted M ks → Sound (made_by M ks) × ((p : ℕ) → p < 8 → euler p (made_by M ks) ≡ euler p M)

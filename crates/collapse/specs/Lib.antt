@@ -4,7 +4,6 @@ pub mod Pieces
 pub mod Split
 pub mod Standing
 pub mod Laws
-pub mod Ties
 pub mod PieceLaws
 pub mod Extended
 pub mod Cases

@@ -1,7 +1,6 @@
 -- The link condition of an edge, for the body and each part.
 use Rattle.std.specs.Prelude.{◌≡◌, ℕ, ◌<◌, false, List}
 use Rattle.std.specs.declared.cmp.Ordering.TheVariants.{Less}
-use Rattle.complex.specs.Mask.{parts}
 use Rattle.complex.specs.Model.{Model, In}
 use Rattle.complex.specs.Simplex.{colex, has, plus, Rising}
 
@@ -30,4 +29,4 @@ pub record Tied (p u v : ℕ) (M : Model) (s : List ℕ) : Type 0 where
 
 -- the condition holds for the body and all parts
 abbrev pub Untied : ℕ → ℕ → Model → Type 0
-Untied u v M = (p : ℕ) → p < parts → Link p u v M
+Untied u v M = (p : ℕ) → p < 8 → Link p u v M

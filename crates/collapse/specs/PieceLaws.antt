@@ -1,7 +1,8 @@
 -- What collapses do to the pieces of a part.
 use Rattle.std.specs.Prelude.{◌≡◌, ℕ, List, [], ◌∷◌}
-use Rattle.complex.specs.Model.{Model, In, Legal, Shaped}
+use Rattle.complex.specs.Model.{Model, In, Legal}
 use Rattle.complex.specs.Simplex.{plus}
+use Rattle.collapse.specs.Laws.{Shaped}
 use Rattle.collapse.specs.Image.{Collapsed, moved}
 use Rattle.collapse.specs.Pieces.{OnePiece}
 use Rattle.collapse.specs.Standing.{traced}

@@ -5,4 +5,3 @@ pub mod cases;
 pub mod extended;
 pub mod laws;
 pub mod pieces;
-pub mod ties;

@@ -1,10 +1,10 @@
 -- A model: the held simplexes with their masks, in the order of simplexes.
-use Rattle.std.specs.Prelude.{◌≡◌, ℕ, zero, suc, ◌^◌, ◌<◌, ◌≤◌, Bool, true, false, cond, not, ◌&&◌, List, length, ℤ, pos, ◌-ℤ◌, Some, None, fold, count_by, Option, ◌==◌, ◌≢◌, bit_or, nat_eq}
+use Rattle.std.specs.Prelude.{◌≡◌, ℕ, zero, suc, ◌^◌, ◌<◌, Bool, true, false, cond, not, ◌&&◌, List, length, ℤ, pos, ◌-ℤ◌, Some, None, fold, count_by, Option, ◌==◌, bit_or, nat_eq}
 use Rattle.std.specs.Option.{unwrap_or}
 use Rattle.order.specs.Assoc.{lookup, put, rising, total}
 use Rattle.order.specs.declared.record.Record.{Record}
-use Rattle.complex.specs.Mask.{bit, mask_limit}
-use Rattle.complex.specs.Simplex.{colex, Rising, Face, faces}
+use Rattle.complex.specs.Mask.{bit}
+use Rattle.complex.specs.Simplex.{colex, Face, faces}
 
 abbrev pub Model : Type 0
 Model = List (Record (List ℕ) ℕ)
@@ -24,18 +24,6 @@ write M s m = put colex s (present m) M
 -- the simplexes stand in their order
 abbrev pub Sorted : Model → Type 0
 Sorted M = rising colex M ≡ true
-
--- no record has the mask 0
-abbrev pub Positive : Model → Type 0
-Positive M = (s : List ℕ) → lookup colex s M ≢ Some 0
-
--- every held simplex has one to four vertices, in rising order
-abbrev pub Shaped : Model → Type 0
-Shaped M = (s : List ℕ) → 0 < mask M s → Rising s × (0 < length s) × (length s ≤ 4)
-
--- every mask has eight bits
-abbrev pub Narrow : Model → Type 0
-Narrow M = (s : List ℕ) → mask M s < mask_limit
 
 -- the simplex s is in part p
 abbrev pub In : ℕ → Model → List ℕ → Type 0

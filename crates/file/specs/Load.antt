@@ -1,8 +1,7 @@
 -- What loading a file into a draft answers and leaves.
 use Rattle.std.specs.Prelude.{◌≡◌, ℕ, cond, List, [], ◌∷◌, length, take, Ok, Err, Result, ◌==◌}
 use Rattle.store.specs.Contents.{Contents}
-use Rattle.model.specs.Drafts.{emptied, lay_answer, laid, mark_answer, marked as marked_with}
-use Rattle.model.specs.Refusals.{model_number}
+use Rattle.model.specs.Calls.{emptied, lay_answer, laid, mark_answer, marked as marked_with, model_number}
 use Rattle.model.specs.declared.refusal.ModelRefusal.{ModelRefusal}
 use Rattle.file.specs.declared.entry.Site.{Site}
 use Rattle.file.specs.declared.refusal.Cause.{Cause}

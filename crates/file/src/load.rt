@@ -1,6 +1,6 @@
 // Loading a file into a draft.
 ghost use Rattle.std.specs.Prelude.{◌≡◌};
-ghost use Rattle.model.specs.Drafts.{Trailless, emptied, lay_answer, laid, mark_answer, marked};
+ghost use Rattle.model.specs.Calls.{emptied, lay_answer, laid, mark_answer, marked};
 ghost use Rattle.file.specs.Load.{load_answer, load_next, loaded, cause_number, entry_answer, entry_next, file_number, stopped_at, vertices_of, Taken, TakenAll};
 ghost use Rattle.file.specs.Entry.{content};
 ghost use Rattle.file.specs.Outcome.{found, outcomes};
@@ -13,13 +13,12 @@ use crate::refusal::{Cause, FileRefusal, Stopped};
 use crate::vertices::Vertices;
 use model::holder::Holder;
 use model::refusal::ModelRefusal;
-use stages::draft::Draft;
+use model::stages::Draft;
 
 // Loads a file into an empty draft, and answers how many simplexes are held. A load that stops empties the draft.
 pub fn load<K: Holder>(draft: &mut Draft<K>, file: &[u8]) -> Result<usize, FileRefusal>
-    ensures value { result ≡ load_answer (K.Holder.state draft.old.holder).holds file.now }
-    ensures after { (K.Holder.state draft.new.holder).holds ≡ load_next (K.Holder.state draft.old.holder).holds file.now }
-    ensures trail { Trailless (K.Holder.state draft.old.holder) (K.Holder.state draft.new.holder) }
+    ensures value { result ≡ load_answer (K.Holder.contents draft.old.holder) file.now }
+    ensures after { K.Holder.contents draft.new.holder ≡ load_next (K.Holder.contents draft.old.holder) file.now }
 {
     if (*draft).held() != 0 {
         return Err(FileRefusal::Occupied);
@@ -35,9 +34,8 @@ pub fn load<K: Holder>(draft: &mut Draft<K>, file: &[u8]) -> Result<usize, FileR
 
 // Takes every entry of the file in order, up to the first that is refused or flawed.
 fn take_all<K: Holder>(draft: &mut Draft<K>, file: &[u8]) -> Result<(), Stopped>
-    ensures taken { TakenAll (loaded (K.Holder.state draft.old.holder).holds (outcomes file.now)) result (K.Holder.state draft.new.holder).holds }
-    ensures same { emptied (K.Holder.state draft.new.holder).holds ≡ emptied (K.Holder.state draft.old.holder).holds }
-    ensures trail { Trailless (K.Holder.state draft.old.holder) (K.Holder.state draft.new.holder) }
+    ensures taken { TakenAll (loaded (K.Holder.contents draft.old.holder) (outcomes file.now)) result (K.Holder.contents draft.new.holder) }
+    ensures same { emptied (K.Holder.contents draft.new.holder) ≡ emptied (K.Holder.contents draft.old.holder) }
 {
     let mut reader = Reader::new(file);
     while let Some(next) = reader.next() {
@@ -48,8 +46,7 @@ fn take_all<K: Holder>(draft: &mut Draft<K>, file: &[u8]) -> Result<(), Stopped>
 
 // Takes what the reader handed out: an entry is laid or marked, a flaw stops the load.
 fn take<K: Holder>(draft: &mut Draft<K>, next: Result<Placed, Flawed>) -> Result<(), Stopped>
-    ensures taken { Taken (K.Holder.state draft.old.holder).holds (told next.entry) result (K.Holder.state draft.new.holder).holds }
-    ensures trail { Trailless (K.Holder.state draft.old.holder) (K.Holder.state draft.new.holder) }
+    ensures { Taken (K.Holder.contents draft.old.holder) (told next.entry) result (K.Holder.contents draft.new.holder) }
 {
     match next {
         Ok(placed) => take_entry(draft, placed),
@@ -58,8 +55,7 @@ fn take<K: Holder>(draft: &mut Draft<K>, next: Result<Placed, Flawed>) -> Result
 }
 
 fn take_entry<K: Holder>(draft: &mut Draft<K>, placed: Placed) -> Result<(), Stopped>
-    ensures taken { Taken (K.Holder.state draft.old.holder).holds (found placed.entry.site (content placed.entry.entry)) result (K.Holder.state draft.new.holder).holds }
-    ensures trail { Trailless (K.Holder.state draft.old.holder) (K.Holder.state draft.new.holder) }
+    ensures { Taken (K.Holder.contents draft.old.holder) (found placed.entry.site (content placed.entry.entry)) result (K.Holder.contents draft.new.holder) }
 {
     match enter(draft, placed.entry) {
         Ok(_) => Ok(()),
@@ -69,9 +65,8 @@ fn take_entry<K: Holder>(draft: &mut Draft<K>, placed: Placed) -> Result<(), Sto
 
 // Lays an entry of the first four sections, or marks one of a part.
 fn enter<K: Holder>(draft: &mut Draft<K>, entry: Entry) -> Result<usize, ModelRefusal>
-    ensures value { result ≡ entry_answer (K.Holder.state draft.old.holder).holds (content entry.entry) }
-    ensures after { (K.Holder.state draft.new.holder).holds ≡ entry_next (K.Holder.state draft.old.holder).holds (content entry.entry) }
-    ensures trail { Trailless (K.Holder.state draft.old.holder) (K.Holder.state draft.new.holder) }
+    ensures value { result ≡ entry_answer (K.Holder.contents draft.old.holder) (content entry.entry) }
+    ensures after { K.Holder.contents draft.new.holder ≡ entry_next (K.Holder.contents draft.old.holder) (content entry.entry) }
 {
     match entry {
         Entry::Tetrahedron(bytes) => lay(draft, bytes),
@@ -83,17 +78,15 @@ fn enter<K: Holder>(draft: &mut Draft<K>, entry: Entry) -> Result<usize, ModelRe
 }
 
 fn lay<K: Holder>(draft: &mut Draft<K>, bytes: &[u8]) -> Result<usize, ModelRefusal>
-    ensures value { result ≡ lay_answer (K.Holder.state draft.old.holder).holds (vertices_of bytes.now) }
-    ensures after { (K.Holder.state draft.new.holder).holds ≡ laid (K.Holder.state draft.old.holder).holds (vertices_of bytes.now) }
-    ensures trail { Trailless (K.Holder.state draft.old.holder) (K.Holder.state draft.new.holder) }
+    ensures value { result ≡ lay_answer (K.Holder.contents draft.old.holder) (vertices_of bytes.now) }
+    ensures after { K.Holder.contents draft.new.holder ≡ laid (K.Holder.contents draft.old.holder) (vertices_of bytes.now) }
 {
     draft.lay(Vertices::of(bytes).as_slice())
 }
 
 fn mark<K: Holder>(draft: &mut Draft<K>, part: u8, bytes: &[u8]) -> Result<usize, ModelRefusal>
-    ensures value { result ≡ mark_answer (K.Holder.state draft.old.holder).holds part (vertices_of bytes.now) }
-    ensures after { (K.Holder.state draft.new.holder).holds ≡ marked (K.Holder.state draft.old.holder).holds part (vertices_of bytes.now) }
-    ensures trail { Trailless (K.Holder.state draft.old.holder) (K.Holder.state draft.new.holder) }
+    ensures value { result ≡ mark_answer (K.Holder.contents draft.old.holder) part (vertices_of bytes.now) }
+    ensures after { K.Holder.contents draft.new.holder ≡ marked (K.Holder.contents draft.old.holder) part (vertices_of bytes.now) }
 {
     draft.mark(part as u16, Vertices::of(bytes).as_slice())
 }

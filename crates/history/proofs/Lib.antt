@@ -1,4 +1,3 @@
 pub mod Fitted
 pub mod Sounds
 pub mod Traced
-pub mod Stays

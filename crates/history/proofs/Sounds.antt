@@ -1,6 +1,5 @@
 -- What a sound working model keeps of its first model.
 use Rattle.std.proofs.Common.{◌≡◌, ℕ, ◌<◌, List, [], ◌∷◌, ◌++◌, sym, refl, ap, ◌∙◌, subst}
-use Rattle.complex.specs.Mask.{parts}
 use Rattle.complex.specs.Model.{Model, Legal, euler}
 use Rattle.collapse.specs.Image.{collapse, moved}
 use Rattle.collapse.specs.Laws.{Collapsible, Accepted}
@@ -48,7 +47,7 @@ module _ (c : Contents) (u v : ℕ) (ns : List Note) (stored : Stored c) (sound 
   collapse_keeps_first = ap (λ d. first d ns) undoing_collapse
 
 -- a list of accepted collapses with one more
-pub accepted_more : (M : Model) (ks : List (ℕ × ℕ)) (u v : ℕ) → Accepted M ks → Collapsible u v (made_by M ks) → Accepted M (ks ++ ((u, v) ∷ []))
+accepted_more : (M : Model) (ks : List (ℕ × ℕ)) (u v : ℕ) → Accepted M ks → Collapsible u v (made_by M ks) → Accepted M (ks ++ ((u, v) ∷ []))
 accepted_more M [] u v a ok = (ok, tt)
 accepted_more M (k ∷ ks) u v a ok = (a.0, accepted_more (collapse k.0 k.1 M) ks u v a.1 ok)
 
@@ -79,7 +78,7 @@ sound_made (n ∷ ns) c stored h =
     }
 
 -- a list of accepted collapses is a run of steps for each part
-run_of : (p : ℕ) → p < parts → (M : Model) (ks : List (ℕ × ℕ)) → laws.Sound M → Accepted M ks → Run p M ks (made_by M ks)
+run_of : (p : ℕ) → p < 8 → (M : Model) (ks : List (ℕ × ℕ)) → laws.Sound M → Accepted M ks → Run p M ks (made_by M ks)
 run_of p l M [] sound a = none
 run_of p l M (k ∷ ks) sound a =
     more (record {
@@ -90,20 +89,16 @@ run_of p l M (k ∷ ks) sound a =
       collapsed = image_rule k.0 k.1 M sound.sorted;
     }) (run_of p l (collapse k.0 k.1 M) ks (collapse_sound k.0 k.1 M a.0.distinct sound) a.1)
 
--- and keeps the pieces of each part
-pub accepted_keep_pieces : (p : ℕ) → p < parts → (M : Model) (ks : List (ℕ × ℕ)) → laws.Sound M → Accepted M ks → SamePieces p M (made_by M ks) (traced ks)
-accepted_keep_pieces p l M ks sound a = traces_keep_pieces p M (made_by M ks) ks (run_of p l M ks sound a)
-
-pub sound_keeps_euler : (ns : List Note) (c : Contents) → Stored c → Sound c ns → (p : ℕ) → p < parts → euler p c.model ≡ euler p (first c ns)
+pub sound_keeps_euler : (ns : List Note) (c : Contents) → Stored c → Sound c ns → (p : ℕ) → p < 8 → euler p c.model ≡ euler p (first c ns)
 sound_keeps_euler ns c stored h p l =
     let made = sound_made ns c stored h in
     ap (euler p) made.now ∙ (made_keeps (first c ns) (standing ns) made.start made.each).1 p l
 
-pub sound_keeps_pieces : (ns : List Note) (c : Contents) → Stored c → Sound c ns → (p : ℕ) → p < parts → SamePieces p (first c ns) c.model (traced (standing ns))
+pub sound_keeps_pieces : (ns : List Note) (c : Contents) → Stored c → Sound c ns → (p : ℕ) → p < 8 → SamePieces p (first c ns) c.model (traced (standing ns))
 sound_keeps_pieces ns c stored h p l =
     let made = sound_made ns c stored h in
     subst (λ (N : Model). SamePieces p (first c ns) N (traced (standing ns))) (sym made.now)
-    (accepted_keep_pieces p l (first c ns) (standing ns) made.start made.each)
+    (traces_keep_pieces p (first c ns) (made_by (first c ns) (standing ns)) (standing ns) (run_of p l (first c ns) (standing ns) made.start made.each))
 
 pub sound_promise : (ns : List Note) (c : Contents) → Stored c → Sound c ns → Promise c ns
 sound_promise ns c stored h = record {

@@ -1,4 +1,3 @@
-pub mod State
 pub mod Past
 pub mod Sound
 pub mod Carried

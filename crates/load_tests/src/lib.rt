@@ -7,9 +7,9 @@ mod tests {
     use file::refusal::FileRefusal;
     use holders::table_holder::TableHolder;
     use model::holder::Holder;
+    use model::stages::Draft;
     use order::record::Record;
     use simplex::simplex::Simplex;
-    use stages::draft::Draft;
     use std::process::Abort;
     use table_store::records::TableStore;
 

@@ -1,4 +1,9 @@
-pub mod Passed
-pub mod Collapsing
-pub mod Restoring
-pub mod Tracing
+pub mod Counted
+pub mod Tying
+pub mod Failing
+pub mod Noting
+pub mod Bases
+pub mod Noted
+pub mod Merging
+pub mod Passing
+pub mod Splitting

@@ -1,26 +1,23 @@
-// A change of a model.
+// A change of what a store holds.
 ghost use Rattle.std.specs.Prelude.{◌≡◌};
-ghost use Rattle.store.specs.Contents.{Stored};
-ghost use Rattle.trail.specs.Past.{past};
-ghost use Rattle.history.specs.State.{State, state};
-ghost use Rattle.history.specs.Sound.{Sound};
+ghost use Rattle.complex.specs.Model.{Legal};
+ghost use Rattle.store.specs.Contents.{Contents, Stored};
 
 use store::meaning::Store;
-use trail::trail::Trail;
 
-// One call that changes: its answer, the state after it, that it keeps a sound model sound, and the code that does it in
-// every store. On the way the model need not be sound.
+// One call that changes: its answer, what is held after it, that it keeps a legal model legal, and the code that does
+// it in every store. On the way the model need not be legal.
 pub trait Edit {
     type Out;
 
-    ghost answer: { Self → State → Self.Out };
+    ghost answer: { Self → Contents → Self.Out };
 
-    ghost next: { Self → State → State };
+    ghost next: { Self → Contents → Contents };
 
-    fn run<S: Store>(&self, store: &mut S, trail: &mut Trail) -> Self::Out
-        requires { Sound (S.Store.contents store.old) (past trail.old) }
-        ensures value { result ≡ answer self.now (state (S.Store.contents store.old) (past trail.old)) }
-        ensures after { state (S.Store.contents store.new) (past trail.new) ≡ next self.now (state (S.Store.contents store.old) (past trail.old)) };
+    fn run<S: Store>(&self, store: &mut S) -> Self::Out
+        requires { Legal (S.Store.contents store.old).model }
+        ensures value { result ≡ answer self.now (S.Store.contents store.old) }
+        ensures after { S.Store.contents store.new ≡ next self.now (S.Store.contents store.old) };
 
-    ghost keeps: { (e : Self) (s : State) → Stored s.holds → Sound s.holds s.past → Sound (next e s).holds (next e s).past };
+    ghost keeps: { (e : Self) (c : Contents) → Stored c → Legal c.model → Legal (next e c).model };
 }

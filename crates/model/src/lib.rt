@@ -1,9 +1,16 @@
-// The model level: what a model is, what may change it, and what it refuses.
+// The model level: drafts and working models over every store, and what they can be asked.
 #![tactic(auto)]
 
 pub mod edit;
+pub mod edits;
+pub mod faces;
 pub mod holder;
-pub mod number;
+mod merges;
+mod notes;
 pub mod part;
-pub mod recorded;
+mod plus;
+pub mod questions;
 pub mod refusal;
+mod splits;
+pub mod stages;
+pub mod ties;

@@ -6,10 +6,9 @@ mod tests {
     use holders::table_holder::TableHolder;
     use model::holder::Holder;
     use model::refusal::ModelRefusal;
+    use model::stages::{Draft, Working};
     use order::record::Record;
     use simplex::simplex::Simplex;
-    use stages::draft::Draft;
-    use stages::working::Working;
     use std::process::Abort;
     use std::test::Fail;
     use table_store::records::TableStore;

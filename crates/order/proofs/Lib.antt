@@ -2,5 +2,4 @@ pub mod Ranks
 pub mod Puts
 pub mod Maps
 pub mod Laters
-pub mod Passing
 pub mod Chains

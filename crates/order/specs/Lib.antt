@@ -1,3 +1,3 @@
 pub mod Assoc
-pub mod Chain
 pub mod Numbers
+pub mod Chain

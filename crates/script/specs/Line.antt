@@ -1,10 +1,8 @@
 -- What a line of a script says.
 use Rattle.std.specs.Prelude.{◌≡◌, ℕ, ◌+◌, ◌-◌, ◌*◌, ◌<◌, ◌≤◌, Bool, true, cond, ◌&&◌, List, [], ◌∷◌, ◌++◌, length, Some, None, Option, ◌==◌, nat_le, nat_lt}
 use Rattle.std.specs.Option.{option_map}
-use Rattle.script.specs.declared.command.Command.{Command}
-use Rattle.script.specs.declared.command.Command.TheVariants.{Collapse, Split, Trace, Euler}
-use Rattle.script.specs.declared.command.Numbers.{Numbers}
-use Rattle.script.specs.declared.command.Numbers.TheVariants.{None as NoNumber, One, Two}
+use Rattle.script.specs.declared.lines.Command.{Command}
+use Rattle.script.specs.declared.lines.Command.TheVariants.{Euler}
 
 -- the byte is one of the ten digits
 abbrev pub is_digit : ℕ → Bool
@@ -35,16 +33,10 @@ Numerals s (n ∷ ns) = (ds : List ℕ) × (rest : List ℕ) × (s ≡ 32 ∷ (d
 
 -- the letter of a command
 abbrev pub letter_of : Command → ℕ
-letter_of (Collapse u v) = 99
-letter_of Split = 115
-letter_of (Trace w) = 116
 letter_of (Euler p) = 101
 
 -- the numbers of a command
 abbrev pub numbers_of : Command → List ℕ
-numbers_of (Collapse u v) = u ∷ v ∷ []
-numbers_of Split = []
-numbers_of (Trace w) = w ∷ []
 numbers_of (Euler p) = p ∷ []
 
 -- the line is the command's letter, and then its numbers
@@ -75,65 +67,16 @@ abbrev pub next_number : List ℕ → Option (ℕ × List ℕ)
 next_number [] = None
 next_number (b ∷ s) = cond (b == 32) (followed (number_of (upto 32 s)) (from 32 s)) None
 
--- the numbers of the code as a list
-abbrev pub listed : Numbers → List ℕ
-listed NoNumber = []
-listed (One a) = a ∷ []
-listed (Two a b) = a ∷ b ∷ []
+-- the number, if nothing follows it
+abbrev pub alone : Option (ℕ × List ℕ) → Option ℕ
+alone None = None
+alone (Some p) = cond (length p.1 == 0) (Some p.0) None
 
--- the numbers so far, if nothing follows
-abbrev pub ends : List ℕ → List ℕ → Option (List ℕ)
-ends ns [] = Some ns
-ends ns (b ∷ s) = None
-
--- a second number and nothing else
-abbrev pub second : ℕ → Option (ℕ × List ℕ) → Option (List ℕ)
-second a None = None
-second a (Some p) = ends (a ∷ p.0 ∷ []) p.1
-
--- what follows a first number
-abbrev pub after_first : ℕ → List ℕ → Option (List ℕ)
-after_first a [] = Some (a ∷ [])
-after_first a (b ∷ s) = second a (next_number (b ∷ s))
-
-abbrev pub first : Option (ℕ × List ℕ) → Option (List ℕ)
-first None = None
-first (Some p) = after_first p.0 p.1
-
--- at most two numbers, each after one space, and nothing else
-abbrev pub numbers_in : List ℕ → Option (List ℕ)
-numbers_in [] = Some []
-numbers_in (b ∷ s) = first (next_number (b ∷ s))
-
--- what has no number, the number of one, and what is made of two
-abbrev pub no_numbers : Command → List ℕ → Option Command
-no_numbers k [] = Some k
-no_numbers k (a ∷ s) = None
-
-abbrev pub one_number : List ℕ → Option ℕ
-one_number [] = None
-one_number (a ∷ []) = Some a
-one_number (a ∷ b ∷ s) = None
-
-abbrev pub pair_numbers : (ℕ → ℕ → Command) → List ℕ → Option Command
-pair_numbers f [] = None
-pair_numbers f (a ∷ []) = None
-pair_numbers f (a ∷ b ∷ []) = Some (f a b)
-pair_numbers f (a ∷ b ∷ c ∷ s) = None
-
--- the command of a letter and its numbers
+-- the command of a letter and of the bytes after it
 abbrev pub letter_command : ℕ → List ℕ → Option Command
-letter_command letter ns =
-    cond (letter == 99) (pair_numbers Collapse ns)
-    (cond (letter == 115) (no_numbers Split ns)
-    (cond (letter == 116) (option_map Trace (one_number ns))
-    (cond (letter == 101) (option_map Euler (one_number ns)) None)))
-
-abbrev pub read_command : ℕ → Option (List ℕ) → Option Command
-read_command letter None = None
-read_command letter (Some ns) = letter_command letter ns
+letter_command letter s = cond (letter == 101) (option_map Euler (alone (next_number s))) None
 
 -- the command of a line, which has at most 64 bytes
 abbrev pub command_of : List ℕ → Option Command
 command_of [] = None
-command_of (letter ∷ s) = cond (nat_lt (length s) 64) (read_command letter (numbers_in s)) None
+command_of (letter ∷ s) = cond (nat_lt (length s) 64) (letter_command letter s) None

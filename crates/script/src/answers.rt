@@ -1,21 +1,17 @@
 // What the program answers, and how an answer is written.
 ghost use Rattle.std.specs.Prelude.{◌≡◌, ◌++◌, Some, string_bytes, OnOk};
-ghost use Rattle.script.specs.Text.{script_number, tie_text, reply_text, text_of, line_of};
+ghost use Rattle.script.specs.Text.{script_number, text_of, line_of};
 
 use crate::refusal::ScriptRefusal;
-use calls::call::Reply;
 use file::refusal::FileRefusal;
-use model::recorded::Recorded;
-use model::refusal::Tie;
-use simplex::shape::Shape;
 use std::alloc::AllocError;
 use std::fmt;
 
-// An answer: how many simplexes a load gave, the model's reply to a line, or a refusal.
+// An answer: how many simplexes a load gave, an Euler number, or a refusal.
 #[derive(Clone, Copy)]
 pub enum Answer {
     Loaded(usize),
-    Replied(Reply),
+    Euler(i32),
     Refused(ScriptRefusal),
 }
 
@@ -26,54 +22,8 @@ impl ScriptRefusal {
     {
         match self {
             ScriptRefusal::Line => 8,
+            ScriptRefusal::Model(refusal) => refusal.number(),
             ScriptRefusal::Load(refusal) => refusal.number(),
-        }
-    }
-}
-
-// A tie as it is written: its part, and the vertices of the simplex that shows it.
-#[derive(Drop)]
-struct Place(Tie);
-
-impl fmt::Display for Place {
-    ghost output = { λ x. Some (tie_text x.0) };
-
-    fn fmt<W: fmt::Write>(&self, f: &mut fmt::Formatter<W>) -> fmt::Result {
-        let part = self.0.part;
-        match self.0.base {
-            None => write!(f, "{part}"),
-            Some(Shape::Point(a)) => write!(f, "{part} {a}"),
-            Some(Shape::Edge(a, b)) => write!(f, "{part} {a} {b}"),
-            Some(Shape::Triangle(a, b, c)) => write!(f, "{part} {a} {b} {c}"),
-            Some(Shape::Tetrahedron(a, b, c, d)) => write!(f, "{part} {a} {b} {c} {d}"),
-        }
-    }
-}
-
-// A reply of the model as it is written.
-#[derive(Drop)]
-struct Told(Reply);
-
-impl fmt::Display for Told {
-    ghost output = { λ x. Some (reply_text x.0) };
-
-    fn fmt<W: fmt::Write>(&self, f: &mut fmt::Formatter<W>) -> fmt::Result {
-        match self.0 {
-            Reply::Collapsed(Recorded { held, bytes }) => write!(f, "ok {held} {bytes}"),
-            Reply::Restored(held) => write!(f, "ok {held}"),
-            Reply::Mask(mask) => write!(f, "ok {mask}"),
-            Reply::Vertex(vertex) => write!(f, "ok {vertex}"),
-            Reply::Number(number) => write!(f, "ok {number}"),
-            Reply::Refused(refusal) => {
-                let number = refusal.number();
-                match refusal.tie() {
-                    Some(tie) => {
-                        let place = Place(tie);
-                        write!(f, "no {number} {place}")
-                    }
-                    None => write!(f, "no {number}"),
-                }
-            }
         }
     }
 }
@@ -84,10 +34,7 @@ impl fmt::Display for Answer {
     fn fmt<W: fmt::Write>(&self, f: &mut fmt::Formatter<W>) -> fmt::Result {
         match self {
             Answer::Loaded(held) => write!(f, "loaded {held}"),
-            Answer::Replied(reply) => {
-                let told = Told(*reply);
-                write!(f, "{told}")
-            }
+            Answer::Euler(value) => write!(f, "ok {value}"),
             Answer::Refused(ScriptRefusal::Load(FileRefusal::At(stopped))) => {
                 let number = stopped.cause.number();
                 let section = stopped.section;

@@ -2,7 +2,6 @@
 #![tactic(auto)]
 
 pub mod answers;
-pub mod command;
 pub mod lines;
 pub mod program;
 pub mod refusal;

@@ -1,10 +1,12 @@
-// Why a line or the load is answered with a refusal of the script's or the file's level.
+// Why a line or the load is answered with a refusal.
 use file::refusal::FileRefusal;
+use model::refusal::ModelRefusal;
 
+// A refusal of the script itself, or one of the levels below, carried whole.
 #[derive(Clone, Copy)]
 pub enum ScriptRefusal {
     // the line is unreadable
     Line,
-    // the file was refused
+    Model(ModelRefusal),
     Load(FileRefusal),
 }

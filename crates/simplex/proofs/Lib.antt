@@ -1,3 +1,2 @@
 pub mod Compared
 pub mod Listed
-pub mod Sizes

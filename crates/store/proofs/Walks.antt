@@ -5,25 +5,24 @@ use Rattle.order.specs.declared.record.Record.{Record}
 use Rattle.order.specs.Assoc.{by, lookup, later, first, next, total, weigh}
 use Rattle.order.proofs.Laters.{later_step, later_found}
 use Rattle.order.proofs.Maps.{total_put, length_is_total}
-use Rattle.complex.specs.Mask.{mask_limit}
 use Rattle.complex.specs.Model.{Model, mask, write, Sorted}
 use Rattle.complex.specs.Simplex.{colex, rises, proper, below}
 use Rattle.complex.proofs.Order.{colex_lawful, colex_exact}
 use Rattle.store.specs.Contents.{fits}
 
 -- what is found is the first of those that are later
-pub found_first : (L : Model) (s : List ℕ) → Some s ≡ first L → (r : Record (List ℕ) ℕ) × (rs : Model) × (L ≡ r ∷ rs) × (r.key ≡ s)
-found_first [] s h = absurd (no h)
+split : (L : Model) (s : List ℕ) → Some s ≡ first L → (r : Record (List ℕ) ℕ) × (rs : Model) × (L ≡ r ∷ rs) × (r.key ≡ s)
+split [] s h = absurd (no h)
   where
     no : Some s ≡ None → ⊥
     no e = let z : ◌≡◌ {A = ℕ} 0 1 = cc in omega arith
-found_first (r ∷ rs) s h = (r, rs, refl, cc)
+split (r ∷ rs) s h = (r, rs, refl, cc)
 
 module _ (M : Model) (sorted : Sorted M) (q s : List ℕ) (found : Some s ≡ next colex q M) where
   -- a sum over what is later, by the simplex that is found and what is later than that
   pub walk_step : (w : List ℕ → ℕ → ℕ) → total w (later colex q M) ≡ w s (mask M s) + total w (later colex s M)
   walk_step w =
-      let p = found_first (later colex q M) s found in
+      let p = split (later colex q M) s found in
       let r = p.0 in
       let value : mask M r.key ≡ r.value = ap (λ o. unwrap_or o 0) (later_found colex colex_lawful M q r p.1 sorted p.2) in
       ap (total w) p.2
@@ -38,7 +37,7 @@ module _ (M : Model) (sorted : Sorted M) (q s : List ℕ) (found : Some s ≡ ne
   -- what is found is held, so that removing it leaves fewer
   pub removing_shortens : length (write M s 0) < length M
   removing_shortens =
-      let p = found_first (later colex q M) s found in
+      let p = split (later colex q M) s found in
       let there : lookup colex s M ≡ Some p.0.value = ap (λ t. lookup colex t M) (sym p.3) ∙ later_found colex colex_lawful M q p.0 p.1 sorted p.2 in
       let one : weigh (λ _ _. 1) s (lookup colex s M) ≡ 1 = ap (weigh (λ _ _. 1) s) there in
       omega (arith, one, total_put colex colex_lawful colex_exact (λ _ _. 1) M s None sorted, length_is_total M, length_is_total (write M s 0))
@@ -48,7 +47,7 @@ pub record Fit (n : ℕ) (r : Record (List ℕ) ℕ) (rs : Model) : Type 0 where
   pub simplex : proper r.key ≡ true
   pub ranged : below n r.key ≡ true
   pub some : 0 < r.value
-  pub byte : r.value < mask_limit
+  pub byte : r.value < 256
   pub rest : fits n rs ≡ true
 
 pub fit_parts : (n : ℕ) (r : Record (List ℕ) ℕ) (rs : Model) → fits n (r ∷ rs) ≡ true → Fit n r rs
@@ -56,12 +55,12 @@ fit_parts n r rs h =
     let a = proper r.key in
     let b = below n r.key in
     let c = ltb 0 r.value in
-    let d = ltb r.value mask_limit in
+    let d = ltb r.value 256 in
     let p = and_parts (a && (b && (c && d))) (fits n rs) h in
     let q = and_parts a (b && (c && d)) p.0 in
     let s = and_parts b (c && d) q.1 in
     let t = and_parts c d s.1 in
-    record { simplex = q.0; ranged = s.0; some = ltb-true 0 r.value t.0; byte = ltb-true r.value mask_limit t.1; rest = p.1 }
+    record { simplex = q.0; ranged = s.0; some = ltb-true 0 r.value t.0; byte = ltb-true r.value 256 t.1; rest = p.1 }
 
 none_later : (L : Model) → None ≡ first L → L ≡ []
 none_later [] h = refl

@@ -1,6 +1,5 @@
 -- What a store holds: a map from simplexes to masks from 1 to 255, with its limit and its range of vertices.
 use Rattle.std.specs.Prelude.{◌≡◌, ℕ, ◌≤◌, Bool, true, ◌&&◌, [], ◌∷◌, length, nat_lt}
-use Rattle.complex.specs.Mask.{mask_limit}
 use Rattle.complex.specs.Model.{Model, Sorted}
 use Rattle.complex.specs.Simplex.{proper, below}
 
@@ -23,7 +22,7 @@ widest_range = 4096
 -- each key is a simplex with its vertices below n, and each mask is from 1 to 255
 abbrev pub fits : ℕ → Model → Bool
 fits n [] = true
-fits n (r ∷ rs) = (proper r.key && (below n r.key && (nat_lt 0 r.value && nat_lt r.value mask_limit))) && fits n rs
+fits n (r ∷ rs) = (proper r.key && (below n r.key && (nat_lt 0 r.value && nat_lt r.value 256))) && fits n rs
 
 -- what every store shows of its contents, at all times
 pub record Stored (c : Contents) : Type 0 where

@@ -9,19 +9,17 @@ use crate::shift::{close_gap, insert_at};
 use order::keys::Order;
 use order::record::Record;
 
-// How many records are in use after a key is given a value, or None where it is new and no record is free. The key is
-// looked for at `near` first.
+// How many records are in use after a key is given a value, or None where it is new and no record is free.
 pub(crate) fn put<K: Order + Copy, V: Copy>(
     rows: &mut [Record<K, V>],
     len: usize,
-    near: usize,
     key: K,
     value: V,
 ) -> Option<usize>
     ensures rest { KeepsRest len rows.old rows.new result }
     ensures does { len ≤ length rows.old → rising K.Order.ranks (take len rows.old) ≡ true → PutAmong K.Order.ranks key value len rows.old rows.new result }
 {
-    match seek(front(rows, len), &key, near) {
+    match seek(front(rows, len), &key) {
         Ok(at) => {
             rows[at] = Record { key, value };
             Some(len)
@@ -34,11 +32,10 @@ pub(crate) fn put<K: Order + Copy, V: Copy>(
     }
 }
 
-// How many records are in use after a key is taken out. The key is looked for at `near` first.
+// How many records are in use after a key is taken out.
 pub(crate) fn remove<K: Order + Copy, V: Copy>(
     rows: &mut [Record<K, V>],
     len: usize,
-    near: usize,
     key: &K,
 ) -> usize
     ensures rest { drop len rows.new ≡ drop len rows.old }
@@ -46,7 +43,7 @@ pub(crate) fn remove<K: Order + Copy, V: Copy>(
 {
     let used = front(rows, len);
     let n = used.len();
-    match seek(used, key, near) {
+    match seek(used, key) {
         Ok(at) => {
             close_gap(rows, at, n);
             n - 1

@@ -8,15 +8,12 @@ use crate::front::front;
 use crate::search::{past, seek};
 use order::keys::Order;
 use order::record::Record;
-use std::cell::Cell;
 
-// Records that the caller lends; the first `len` are in use, in rising order of their keys. `near` is the place of the
-// last key that `after` answered: a walk then finds each key at once. No answer depends on it.
+// Records that the caller lends; the first `len` are in use, in rising order of their keys.
 #[derive(Drop)]
 pub struct Table<'a, K, V> {
     pub records: &'a mut [Record<K, V>],
     pub len: usize,
-    near: Cell<usize>,
 }
 
 impl<'a, K: Order + Copy, V: Copy> Table<'a, K, V> {
@@ -28,11 +25,7 @@ impl<'a, K: Order + Copy, V: Copy> Table<'a, K, V> {
         ensures len { result.len ≡ 0 }
         ensures lender { result.records.ghost_name ≡ records.entry.ghost_name }
     {
-        Table {
-            records,
-            len: 0,
-            near: Cell::new(0),
-        }
+        Table { records, len: 0 }
     }
 
     // The value at a key.
@@ -40,7 +33,7 @@ impl<'a, K: Order + Copy, V: Copy> Table<'a, K, V> {
         ensures { Good K.Order.ranks self.now → result ≡ lookup K.Order.ranks key.now (held self.now) }
     {
         let rows = front(self.records, self.len);
-        match seek(rows, key, self.near.get()) {
+        match seek(rows, key) {
             Ok(at) => Some(rows[at].value),
             Err(_) => None,
         }
@@ -51,10 +44,7 @@ impl<'a, K: Order + Copy, V: Copy> Table<'a, K, V> {
         ensures { result ≡ first (held self.now) }
     {
         match front(self.records, self.len) {
-            [record, ..] => {
-                self.near.set(0);
-                Some(record.key)
-            }
+            [record, ..] => Some(record.key),
             [] => None,
         }
     }
@@ -64,9 +54,7 @@ impl<'a, K: Order + Copy, V: Copy> Table<'a, K, V> {
         ensures { Good K.Order.ranks self.now → result ≡ next K.Order.ranks key.now (held self.now) }
     {
         let rows = front(self.records, self.len);
-        let at = past(rows, key, self.near.get());
-        self.near.set(at);
-        Some(rows.get(at)?.key)
+        Some(rows.get(past(rows, key))?.key)
     }
 
     // Gives a key a value; false where the key is new and no record is free.
@@ -78,8 +66,7 @@ impl<'a, K: Order + Copy, V: Copy> Table<'a, K, V> {
         ensures does { Good K.Order.ranks self.old → Stored K.Order.ranks key value self.old self.new result }
     {
         let len = self.len;
-        let near = self.near.get();
-        match put(self.records, len, near, key, value) {
+        match put(self.records, len, key, value) {
             Some(n) => {
                 self.len = n;
                 true
@@ -96,7 +83,6 @@ impl<'a, K: Order + Copy, V: Copy> Table<'a, K, V> {
         ensures does { Good K.Order.ranks self.old → Removed K.Order.ranks key.now self.old self.new }
     {
         let len = self.len;
-        let near = self.near.get();
-        self.len = remove(self.records, len, near, key);
+        self.len = remove(self.records, len, key);
     }
 }

@@ -24,21 +24,8 @@ fn place<K: Order, V>(rows: &[Record<K, V>], key: &K) -> usize
     lo
 }
 
-// The place of a key, or as an error the place where it would stand. It is looked for at `near` first, which costs
-// nothing where it stands there, and changes no answer where it does not.
-pub(crate) fn seek<K: Order, V>(rows: &[Record<K, V>], key: &K, near: usize) -> Result<usize, usize>
-    ensures { Sought K.Order.ranks key.now rows.now result }
-{
-    if near < rows.len() {
-        if let Ordering::Equal = rows[near].key.compare(key) {
-            return Ok(near);
-        }
-    }
-    search(rows, key)
-}
-
-// The same, by halves.
-fn search<K: Order, V>(rows: &[Record<K, V>], key: &K) -> Result<usize, usize>
+// The place of a key, or as an error the place where it would stand.
+pub(crate) fn seek<K: Order, V>(rows: &[Record<K, V>], key: &K) -> Result<usize, usize>
     ensures { Sought K.Order.ranks key.now rows.now result }
 {
     let at = place(rows, key);
@@ -52,11 +39,11 @@ fn search<K: Order, V>(rows: &[Record<K, V>], key: &K) -> Result<usize, usize>
     }
 }
 
-// The place of the first row with a greater key; the key is looked for at `near` first.
-pub(crate) fn past<K: Order, V>(rows: &[Record<K, V>], key: &K, near: usize) -> usize
+// The place of the first row with a greater key.
+pub(crate) fn past<K: Order, V>(rows: &[Record<K, V>], key: &K) -> usize
     ensures { rising K.Order.ranks rows.now ≡ true → later K.Order.ranks key.now rows.now ≡ drop result rows.now }
 {
-    match seek(rows, key, near) {
+    match seek(rows, key) {
         Ok(at) => at + 1,
         Err(at) => at,
     }

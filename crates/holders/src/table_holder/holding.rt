@@ -1,51 +1,41 @@
-// A table store with its trail as what drafts and working models stand on.
-ghost use Rattle.std.specs.Prelude.{◌≡◌, []};
+// A table store as what drafts and working models stand on.
+ghost use Rattle.std.specs.Prelude.{◌≡◌};
 ghost use Rattle.std.proofs.Math.Logic.{∥∥₁_elim};
-ghost use Rattle.trail.specs.Past.{past};
-ghost use Rattle.history.specs.Carried.{sound_prop};
-ghost use Rattle.history.specs.State.{state as state_of};
-ghost use Rattle.model.specs.Drafts.{emptied};
-ghost use Rattle.table_store.specs.Stores.{contents, contents_stored};
+ghost use Rattle.complex.specs.Legality.{legal_prop};
+ghost use Rattle.model.specs.Calls.{emptied};
+ghost use Rattle.table_store.specs.Stores.{contents as contents_of, contents_stored};
 
 use crate::table_holder::TableHolder;
-use drafting::edits::remove_all;
 use model::edit::Edit;
+use model::edits::remove_all;
 use model::holder::Holder;
 use store::meaning::Store;
 use table_store::records::TableStore;
-use trail::trail::Trail;
 
 impl<'b, 'a> TableHolder<'b, 'a> {
-    // Empties the store, and holds it with an empty trail.
+    // Empties the store, and holds it.
     pub fn over(store: &'b mut TableStore<'a>) -> TableHolder<'b, 'a>
-        ensures { state_of (contents result.store.now) (past result.trail) ≡ state_of (emptied (contents store.old)) [] }
+        ensures { contents_of result.store.now ≡ emptied (contents_of store.old) }
     {
         remove_all(&mut *store);
-        TableHolder {
-            store,
-            trail: Trail::new(),
-        }
+        TableHolder { store }
     }
 }
 
 impl<'b, 'a> Holder for TableHolder<'b, 'a> {
     type Store = TableStore<'a>;
 
-    ghost state = { λ h. state_of (contents h.store.now) (past h.trail) };
+    ghost contents = { λ h. contents_of h.store.now };
 
     ghost stored = { λ h. contents_stored h.store.now };
 
-    ghost sound = { λ h. ∥∥₁_elim h.sound (sound_prop (past h.trail) (contents h.store.now)) (λ s. s) };
+    ghost legal = { λ h. ∥∥₁_elim h.legal (legal_prop (contents_of h.store.now).model) (λ l. l) };
 
     fn store(&self) -> &TableStore<'a> {
         &*self.store
     }
 
-    fn trail(&self) -> &Trail {
-        &self.trail
-    }
-
     fn apply<E: Edit>(&mut self, edit: &E) -> E::Out {
-        edit.run(&mut *self.store, &mut self.trail)
+        edit.run(&mut *self.store)
     }
 }

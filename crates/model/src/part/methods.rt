@@ -1,16 +1,16 @@
-// The part of a number, and its bit in a mask.
 ghost use Rattle.std.specs.Prelude.{◌≡◌, ◌^◌, if◌then◌else◌, Some, None, nat_lt};
 ghost use Rattle.std.specs.Option.{option_map};
-ghost use Rattle.complex.specs.Mask.{bit, parts};
+ghost use Rattle.complex.specs.Mask.{bit};
+ghost use Rattle.model.specs.Calls.{parts};
 
-use crate::part::{PARTS, Part};
+use crate::part::Part;
 
 impl Part {
     // The part of this number, if there is one.
     pub fn of(number: u16) -> Option<Part>
         ensures { option_map (λ p. p.number) result ≡ (if nat_lt number parts then Some number else None) }
     {
-        if number < PARTS {
+        if number < 8 {
             Some(Part {
                 number: number as u8,
             })

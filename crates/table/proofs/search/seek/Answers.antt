@@ -1,16 +1,13 @@
--- A key that stands where it is looked for first stands at its place.
-use Rattle.std.proofs.Common.{sym}
-use Rattle.table.proofs.Places.{equal_is_below, found_equal}
+-- The key is there exactly where the record at its place compares as the same.
+use Rattle.std.proofs.Common.{sym, ◌∙◌, arith}
+use Rattle.table.proofs.Places.{found_equal, missing_other, missing_end}
 use Rattle.table.proofs.search.seek.Goals as goal
 
 pub returns-in-Equal : goal.returns-in-Equal
-returns-in-Equal g c =
-    let rank = g.K.Order.ranks in
-    let m = g.met.K.Order in
-    let k = c.args.key.now in
-    let rows = c.args.rows.now in
-    let n = c.args.near in
-    let d = c.index-rows-near.result in
-    let h = c.if-near-rows.true in
-    let e = sym c.in-Equal.ensures in
-    (h, λ up. (let at = equal_is_below rank (record { flip = m.flip; chain = m.chain; alike = m.alike }) k rows n d h up e in (at, found_equal rank k rows n at d h e)))
+returns-in-Equal g c = (c.if-at-rows.true, λ up. (c.place-at.ensures.at up, found_equal g.K.Order.ranks c.args.key.now c.args.rows.now c.place-at.result (c.place-at.ensures.at up) c.index-rows-at.result c.if-at-rows.true (sym c.in-Equal.ensures)))
+
+pub returns-in_default : goal.returns-in_default
+returns-in_default g c = (omega arith, λ up. (c.place-at.ensures.at up, missing_other g.K.Order.ranks c.args.key.now c.args.rows.now c.place-at.result (c.place-at.ensures.at up) c.index-rows-at.result c.if-at-rows.true (λ e. c.in_default.not-Equal (c.compare.ensures ∙ e))))
+
+pub returns-else-at-rows : goal.returns-else-at-rows
+returns-else-at-rows g c = (omega arith, λ up. (c.place-at.ensures.at up, missing_end g.K.Order.ranks c.args.key.now c.args.rows.now c.place-at.result (c.place-at.ensures.at up) (omega arith)))

@@ -1,0 +1,149 @@
+-- The walks of the search: what one simplex tells of all parts, and the first base of those that are left.
+use Rattle.std.proofs.Common.{◌≡◌, ℕ, zero, suc, ◌+◌, ◌-◌, ◌/◌, ◌%◌, ◌^◌, ◌<◌, Bool, true, false, cond, not, ◌&&◌, ◌||◌, eqb, ◌⊎◌, List, [], ◌∷◌, is_some, Some, None, Option, sym, refl, ap, ◌∙◌, inl, inr, pow-suc, one-add, arith}
+use lib.Bits.{bit_and, bit_or}
+use Rattle.std.proofs.lemmas.Nat.{shr-shr}
+use Rattle.std.proofs.lemmas.Bool.{and_left, and_right, cases_Bool, cond-false, cond-true}
+use Rattle.order.specs.Assoc.{first, later, next}
+use Rattle.order.specs.declared.record.Record.{Record}
+use Rattle.order.proofs.Laters.{later_step}
+use Rattle.complex.specs.Mask.{bit}
+use Rattle.complex.specs.Model.{Model, mask, Sorted}
+use Rattle.complex.specs.Simplex.{colex, has, plus, less, Rising}
+use Rattle.complex.proofs.Masks.{bit_of_or, bit_of_none}
+use Rattle.complex.proofs.Order.{colex_lawful}
+use Rattle.collapse.specs.Split.{bases}
+use Rattle.collapse.proofs.Images.{bit_of_and}
+use Rattle.collapse.proofs.Vertices.{has_plus, has_less, plus_comm, plus_less, plus_rising, less_rising, same_has}
+use Rattle.model.specs.Calls.{parts}
+use Rattle.model.specs.Ties.{shows, first_of, tie_in, or_later, tie_from}
+use Rattle.model.proofs.Tying.{passes, first_step}
+
+next_bit : (p m : ℕ) → bit (suc p) m ≡ bit p (m / 2)
+next_bit p m = ap (λ n. eqb (m / 2 ^ n % 2) 1) (sym (one-add p)) ∙ ap (λ n. eqb (n % 2) 1) (sym (shr-shr m 1 p))
+
+-- the bits that a number of k bits lacks
+inverted_bits : (k p c : ℕ) → p < k → c < 2 ^ k → bit p (2 ^ k - 1 - c) ≡ not (bit p c)
+inverted_bits zero p c l m = absurd (omega arith)
+inverted_bits (suc k) zero c l m = let d = pow-suc 2 k in grind arith
+inverted_bits (suc k) (suc p) c l m =
+    let d = pow-suc 2 k in
+    let half : (2 ^ suc k - 1 - c) / 2 ≡ 2 ^ k - 1 - c / 2 = omega arith in
+    next_bit p (2 ^ suc k - 1 - c) ∙ ap (bit p) half ∙ inverted_bits k p (c / 2) (omega arith) (omega arith) ∙ ap not (sym (next_bit p c))
+
+-- v added to a list that has it
+plus_has : (v : ℕ) (k : List ℕ) → Rising k → has v k ≡ true → plus v k ≡ k
+plus_has v k r h =
+    same_has (plus v k) k (plus_rising v k r) r (λ q. let i = has_plus q v k in let j : q ≡ v → has q k ≡ true = λ e. rw e h in grind arith)
+
+-- what a simplex k tells of its base, for part p
+module _ (p u v : ℕ) (M : Model) (k : List ℕ) (rise : Rising k) where
+  shows_by_masks : has u k ≡ true → shows p u v M (less u k) ≡ (not (has v (less u k)) && (bit p (mask M k) && (bit p (mask M (plus v (less u k))) && not (bit p (mask M (plus v k))))))
+  shows_by_masks h =
+      let s = less u k in
+      let back : plus u s ≡ k = plus_less u k rise h in
+      let both : plus u (plus v s) ≡ plus v k = plus_comm u v s (less_rising u k rise) ∙ ap (plus v) back in
+      ap (λ x. not (has v s) && (bit p (mask M x) && (bit p (mask M (plus v s)) && not (bit p (mask M (plus u (plus v s))))))) back
+      ∙ ap (λ x. not (has v s) && (bit p (mask M k) && (bit p (mask M (plus v s)) && not (bit p (mask M x))))) both
+
+  -- one without u, or with v, tells nothing
+  pub tells_nothing : (has u k ≡ false) ⊎ (has v k ≡ true) → bit p 0 ≡ passes u (shows p u v M) k
+  tells_nothing x = bit_of_none p ∙ sym (go x (cases_Bool (has u k)))
+    where
+      never : (x y z : Bool) → (x && (y && (z && not y))) ≡ false
+      never x y z = grind arith
+
+      go : (has u k ≡ false) ⊎ (has v k ≡ true) → (has u k ≡ true) ⊎ (has u k ≡ false) → passes u (shows p u v M) k ≡ false
+      go (inl e) y = and_left _ _ e
+      go (inr w) (inl h) =
+          let s = less u k in
+          let same : plus v k ≡ k = plus_has v k rise w in
+          and_right _ _
+          (shows_by_masks h ∙ ap (λ x. not (has v s) && (bit p (mask M k) && (bit p (mask M (plus v s)) && not (bit p (mask M x))))) same
+          ∙ never (not (has v s)) (bit p (mask M k)) (bit p (mask M (plus v s))))
+      go (inr w) (inr e) = and_left _ _ e
+
+  -- another tells by the masks of three simplexes
+  pub tells_by_masks : p < 8 → has u k ≡ true → has v k ≡ false → (a b c : ℕ) → a ≡ mask M k → b ≡ mask M (plus v (less u k)) → c ≡ mask M (plus v k) → c < 256 →
+      bit p (bit_and (bit_and a b) (255 - c)) ≡ passes u (shows p u v M) k
+  tells_by_masks l h w a b c d e f m =
+      let lacks : has v (less u k) ≡ false = (let i = has_less v u k rise in grind arith) in
+      bit_of_and p (bit_and a b) (255 - c)
+      ∙ joined (bit p (bit_and a b)) (bit p a) (bit p b) (bit p (255 - c)) (bit p c) (has u k) (has v (less u k)) (bit_of_and p a b) (inverted_bits 8 p c l m) h lacks
+      ∙ ap (λ x. has u k && (not (has v (less u k)) && (bit p x && (bit p b && not (bit p c))))) d
+      ∙ ap (λ x. has u k && (not (has v (less u k)) && (bit p (mask M k) && (bit p x && not (bit p c))))) e
+      ∙ ap (λ x. has u k && (not (has v (less u k)) && (bit p (mask M k) && (bit p (mask M (plus v (less u k))) && not (bit p x))))) f
+      ∙ ap (λ x. has u k && x) (sym (shows_by_masks h))
+    where
+      joined : (ab a b n c x y : Bool) → ab ≡ (a && b) → n ≡ not c → x ≡ true → y ≡ false → (ab && n) ≡ (x && (not y && (a && (b && not c))))
+      joined ab a b n c x y i j h w = grind arith
+
+-- the walk to the next simplex, and what is later than that
+next_first : (M : Model) (q s : List ℕ) → Sorted M → Some s ≡ next colex q M → (r : Record (List ℕ) ℕ) × (later colex q M ≡ r ∷ later colex s M) × (r.key ≡ s)
+next_first M q s sorted h = go (later colex q M) refl h
+  where
+    go : (L : Model) → later colex q M ≡ L → Some s ≡ first L → (r : Record (List ℕ) ℕ) × (later colex q M ≡ r ∷ later colex s M) × (r.key ≡ s)
+    go [] e h = let z : ◌≡◌ {A = ℕ} 0 1 = cc in absurd (omega arith)
+    go (r ∷ rs) e h =
+        let same : r.key ≡ s = cc in
+        (r, e ∙ ap (λ t. r ∷ t) (sym (later_step colex colex_lawful M q r rs sorted e) ∙ ap (λ k. later colex k M) same), same)
+
+-- the first of the bases that are left, one simplex further
+first_walked : (u : ℕ) (f : List ℕ → Bool) (M : Model) (q s : List ℕ) → Sorted M → Some s ≡ next colex q M →
+    first_of f (bases u (later colex q M)) ≡ cond (passes u f s) (Some (less u s)) (first_of f (bases u (later colex s M)))
+first_walked u f M q s sorted h =
+    let n = next_first M q s sorted h in
+    ap (λ L. first_of f (bases u L)) n.1 ∙ first_step u f n.0 (later colex s M)
+    ∙ ap (λ k. cond (passes u f k) (Some (less u k)) (first_of f (bases u (later colex s M)))) n.2
+
+-- where the simplex passes, its base is the first
+pub first_here : (u : ℕ) (f : List ℕ → Bool) (M : Model) (q s : List ℕ) → Sorted M → Some s ≡ next colex q M → passes u f s ≡ true →
+    first_of f (bases u (later colex q M)) ≡ Some (less u s)
+first_here u f M q s sorted h e = first_walked u f M q s sorted h ∙ cond-true _ _ _ e
+
+-- where the simplex does not pass, the first is further on
+pub first_further : (u : ℕ) (f : List ℕ → Bool) (M : Model) (q s : List ℕ) → Sorted M → Some s ≡ next colex q M → passes u f s ≡ false →
+    first_of f (bases u (later colex s M)) ≡ first_of f (bases u (later colex q M))
+first_further u f M q s sorted h e = sym (first_walked u f M q s sorted h ∙ cond-false _ _ _ e)
+
+-- some base that is left passes where this one does or some later one
+pub some_from_here_on : (u : ℕ) (f : List ℕ → Bool) (M : Model) (q s : List ℕ) (p old new : ℕ) (all : Bool) → Sorted M → Some s ≡ next colex q M → bit p new ≡ passes u f s →
+    (bit p old || is_some (first_of f (bases u (later colex q M)))) ≡ all → (bit p (bit_or old new) || is_some (first_of f (bases u (later colex s M)))) ≡ all
+some_from_here_on u f M q s p old new all sorted h e inv =
+    let i = bit_of_or p old new in
+    let j = ap is_some (first_walked u f M q s sorted h) ∙ either (passes u f s) (less u s) (first_of f (bases u (later colex s M))) in
+    regrouped (bit p (bit_or old new)) (bit p old) (bit p new) (passes u f s) (is_some (first_of f (bases u (later colex s M)))) (is_some (first_of f (bases u (later colex q M)))) i e j ∙ inv
+  where
+    either : (b : Bool) (t : List ℕ) (o : Option (List ℕ)) → is_some (cond b (Some t) o) ≡ (b || is_some o)
+    either true t o = refl
+    either false t o = refl
+
+    regrouped : (on o n b x y : Bool) → on ≡ (o || n) → n ≡ b → y ≡ (b || x) → (on || x) ≡ (o || y)
+    regrouped on o n b x y i e j = grind arith
+
+-- none passes where none is left
+pub none_left : (u : ℕ) (f : List ℕ → Bool) (M : Model) (q : List ℕ) → later colex q M ≡ [] → first_of f (bases u (later colex q M)) ≡ None
+none_left u f M q e = ap (λ L. first_of f (bases u L)) e
+
+-- the bits are all that is told where no base is left
+pub told_at_end : (b all : Bool) (o : Option (List ℕ)) → o ≡ None → (b || is_some o) ≡ all → b ≡ all
+told_at_end b all o e h = sym (or_none b) ∙ ap (λ x. b || is_some x) (sym e) ∙ h
+  where
+    or_none : (b : Bool) → (b || false) ≡ b
+    or_none true = refl
+    or_none false = refl
+
+pub is_none : (o : Option (List ℕ)) → is_some o ≡ false → o ≡ None
+is_none None h = refl
+is_none (Some s) h = cc
+
+-- the parts from a on, by what there is for a
+next_part : (a u v : ℕ) (M : Model) → a < parts → tie_from a (parts - a) u v M ≡ or_later a (tie_in a u v M) (tie_from (a + 1) (parts - (a + 1)) u v M)
+next_part a u v M l = let e : 8 - a ≡ suc (8 - (a + 1)) = omega arith in ap (λ n. tie_from a n u v M) e
+
+-- a part for which there is none is passed over
+pub part_passed : (a u v : ℕ) (M : Model) (o : Option (ℕ × List ℕ)) → a < parts → tie_in a u v M ≡ None → tie_from a (parts - a) u v M ≡ o → tie_from (a + 1) (parts - (a + 1)) u v M ≡ o
+part_passed a u v M o l e h = sym (next_part a u v M l ∙ ap (λ t. or_later a t (tie_from (a + 1) (parts - (a + 1)) u v M)) e) ∙ h
+
+-- a part for which there is one is the smallest
+pub part_found : (a u v : ℕ) (M : Model) (s : List ℕ) (o : Option (ℕ × List ℕ)) → a < parts → tie_in a u v M ≡ Some s → tie_from a (parts - a) u v M ≡ o → Some (a, s) ≡ o
+part_found a u v M s o l e h = sym (next_part a u v M l ∙ ap (λ t. or_later a t (tie_from (a + 1) (parts - (a + 1)) u v M)) e) ∙ h

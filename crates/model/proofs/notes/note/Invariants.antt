@@ -1,0 +1,10 @@
+use Rattle.std.proofs.Common.{length}
+use Rattle.simplex.specs.Simplexes.{found}
+use Rattle.model.proofs.Noted.{Noted, left_over}
+use Rattle.model.proofs.notes.note.Given as goal
+
+abbrev pub invariant-loop-base : goal.invariant-loop-base
+invariant-loop-base g l = Noted l.u l.v (g.S.Store.contents l.store).model l.initial.trail l.trail l.n (found l.s) (found l.t)
+
+abbrev pub decreases-loop-base : goal.decreases-loop-base
+decreases-loop-base g l = length (left_over l.u l.v (g.S.Store.contents l.store).model (found l.s) (found l.t))
