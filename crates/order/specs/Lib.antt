@@ -1,3 +1,2 @@
 pub mod Assoc
-pub mod Numbers
 pub mod Chain

@@ -2,7 +2,7 @@ ghost use Rattle.std.specs.Prelude.{◌≡◌};
 ghost use Rattle.std.specs.declared.cmp.Ordering.TheVariants.{Less, Equal, Greater};
 ghost use Rattle.std.specs.declared.cmp.Ordering.{Ordering};
 ghost use Rattle.std.specs.Ordering.{ordering_reverse, nat_cmp};
-ghost use Rattle.order.specs.Numbers.{nat_flip, nat_chain, nat_alike};
+ghost use Rattle.std.proofs.lemmas.Cmp.{nat_cmp_total};
 
 use std::cmp::Ordering;
 
@@ -26,11 +26,11 @@ pub trait Order {
 impl Order for u16 {
     ghost ranks = { nat_cmp };
 
-    ghost flip = { nat_flip };
+    ghost flip = { nat_cmp_total.antisymm };
 
-    ghost chain = { nat_chain };
+    ghost chain = { nat_cmp_total.trans };
 
-    ghost alike = { nat_alike };
+    ghost alike = { nat_cmp_total.congr };
 
     fn compare(&self, other: &u16) -> Ordering {
         self.cmp(other)
