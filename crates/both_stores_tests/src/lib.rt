@@ -4,13 +4,11 @@
 #[cfg(test)]
 mod tests {
     use grid_store::grid::GridStore;
-    use holders::grid_holder::GridHolder;
-    use holders::table_holder::TableHolder;
-    use model::holder::Holder;
     use model::refusal::ModelRefusal;
     use model::stages::Draft;
     use order::record::Record;
     use simplex::simplex::Simplex;
+    use store::meaning::Store;
     use table_store::records::TableStore;
 
     // A refusal by its number.
@@ -21,7 +19,7 @@ mod tests {
         }
     }
 
-    fn laid<K: Holder>(draft: &mut Draft<K>) -> [Result<usize, u8>; 10] {
+    fn laid<S: Store>(draft: &mut Draft<'_, S>) -> [Result<usize, u8>; 10] {
         [
             numbered(draft.lay(&[0, 1, 2, 3])),
             numbered(draft.lay(&[1, 2, 3, 31])),
@@ -36,7 +34,7 @@ mod tests {
         ]
     }
 
-    fn marked<K: Holder>(draft: &mut Draft<K>) -> [Result<usize, u8>; 8] {
+    fn marked<S: Store>(draft: &mut Draft<'_, S>) -> [Result<usize, u8>; 8] {
         [
             numbered(draft.mark(1, &[1, 2, 3])),
             numbered(draft.mark(2, &[3, 30])),
@@ -49,8 +47,8 @@ mod tests {
         ]
     }
 
-    fn all_calls<K: Holder + Drop>(
-        holder: K,
+    fn all_calls<S: Store>(
+        store: &mut S,
     ) -> (
         [Result<usize, u8>; 10],
         [Result<usize, u8>; 8],
@@ -58,7 +56,7 @@ mod tests {
         [Result<i32, u8>; 6],
         usize,
     ) {
-        let mut draft = Draft::open(holder);
+        let mut draft = Draft::open(store);
         let lays = laid(&mut draft);
         let marks = marked(&mut draft);
         let working = draft.close();
@@ -88,12 +86,10 @@ mod tests {
             value: 0,
         }; 64];
         let mut table = TableStore::open(&mut records);
-        let mut table_holder = TableHolder::over(&mut table);
-        let over_table = all_calls(&mut table_holder);
+        let over_table = all_calls(&mut table);
         let mut bytes = [255; 41448];
         let mut grid = GridStore::open(&mut bytes);
-        let mut grid_holder = GridHolder::over(&mut grid);
-        let over_grid = all_calls(&mut grid_holder);
+        let over_grid = all_calls(&mut grid);
         assert_eq!(rt; over_table.0, over_grid.0);
         assert_eq!(rt; over_table.1, over_grid.1);
         assert_eq!(rt; over_table.2, over_grid.2);
@@ -103,8 +99,8 @@ mod tests {
         assert_eq!(rt; over_grid.0[1], Ok(8));
     }
 
-    fn at_the_range<K: Holder + Drop>(holder: K) -> [Result<usize, u8>; 4] {
-        let mut draft = Draft::open(holder);
+    fn at_the_range<S: Store>(store: &mut S) -> [Result<usize, u8>; 4] {
+        let mut draft = Draft::open(store);
         [
             numbered(draft.lay(&[30, 31])),
             numbered(draft.lay(&[31, 32])),
@@ -120,22 +116,13 @@ mod tests {
             value: 0,
         }; 8];
         let mut table = TableStore::open(&mut records);
-        let mut table_holder = TableHolder::over(&mut table);
-        assert_eq!(rt;
-            at_the_range(&mut table_holder),
-            [Ok(3), Ok(2), Ok(3), Ok(0)]
-        );
+        assert_eq!(rt; at_the_range(&mut table), [Ok(3), Ok(2), Ok(3), Ok(0)]);
         let mut enough = [255; 41448];
         let mut grid = GridStore::open(&mut enough);
-        let mut holder = GridHolder::over(&mut grid);
-        assert_eq!(rt; at_the_range(&mut holder), [Ok(3), Err(3), Err(3), Ok(1)]);
+        assert_eq!(rt; at_the_range(&mut grid), [Ok(3), Err(3), Err(3), Ok(1)]);
         let mut short = [255; 41447];
         let mut grid = GridStore::open(&mut short);
-        let mut holder = GridHolder::over(&mut grid);
-        assert_eq!(rt;
-            at_the_range(&mut holder),
-            [Err(22), Err(3), Err(3), Err(23)]
-        );
+        assert_eq!(rt; at_the_range(&mut grid), [Err(22), Err(3), Err(3), Err(23)]);
         assert_eq!(rt; short[41446], 255);
     }
 }

@@ -5,12 +5,11 @@
 mod tests {
     use file::load::load;
     use file::refusal::FileRefusal;
-    use holders::table_holder::TableHolder;
-    use model::holder::Holder;
     use model::stages::Draft;
     use order::record::Record;
     use simplex::simplex::Simplex;
     use std::process::Abort;
+    use store::meaning::Store;
     use table_store::records::TableStore;
 
     // A triangle 0 1 2 with part 1 on point 1.
@@ -44,8 +43,8 @@ mod tests {
         }
     }
 
-    fn loads<K: Holder + Drop>(rt: &impl Abort, holder: K) {
-        let mut draft = Draft::open(holder);
+    fn loads<S: Store>(rt: &impl Abort, store: &mut S) {
+        let mut draft = Draft::open(store);
         // cut inside a count, an entry, the entry of a part and the last count
         assert_eq!(rt; told(load(&mut draft, &[])), [6, 1, 0, 0]);
         assert_eq!(rt; told(load(&mut draft, &MARKED[0..9])), [6, 2, 0, 4]);
@@ -68,8 +67,7 @@ mod tests {
             value: 0,
         }; 7];
         let mut store = TableStore::open(&mut records);
-        let mut holder = TableHolder::over(&mut store);
-        loads(&rt, &mut holder);
+        loads(&rt, &mut store);
     }
 
     #[test]
@@ -79,8 +77,7 @@ mod tests {
             value: 0,
         }; 6];
         let mut store = TableStore::open(&mut records);
-        let mut holder = TableHolder::over(&mut store);
-        let mut draft = Draft::open(&mut holder);
+        let mut draft = Draft::open(&mut store);
         assert_eq!(rt; told(load(&mut draft, &MARKED)), [22, 2, 0, 4]);
         assert_eq!(rt; draft.held(), 0);
     }

@@ -1,10 +1,8 @@
 // The model level: drafts and working models over every store, and what they can be asked.
 #![tactic(auto)]
 
-pub mod edit;
-pub mod edits;
+mod edits;
 pub mod faces;
-pub mod holder;
 mod merges;
 mod notes;
 pub mod part;

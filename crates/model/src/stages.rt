@@ -1,103 +1,126 @@
 // The two stages of a model: a draft is laid and marked, and closing it gives the working model.
 ghost use Rattle.std.specs.Prelude.{◌≡◌, length};
 ghost use Rattle.complex.specs.Model.{Legal};
+ghost use Rattle.store.specs.Contents.{Contents, Stored};
 ghost use Rattle.model.specs.Calls.{emptied, Lays, Marks, look_answer, euler_answer, model_number};
 
-use crate::edits::{Clear, Lay, Mark};
-use crate::holder::Holder;
+use crate::edits::{lay_simplex, mark_simplex, remove_all};
 use crate::part::Part;
 use crate::questions::euler;
 use crate::refusal::ModelRefusal;
 use simplex::simplex::Simplex;
+use std::marker::Model;
 use store::meaning::Store;
 
+// A store whose model is legal, while it is laid and marked. Clauses see it as what the store holds.
 #[derive(Drop)]
-pub struct Draft<K> {
-    holder: K,
+pub struct Draft<'a, S: Store> {
+    store: &'a mut S,
 }
 
-#[derive(Drop)]
-pub struct Working<K> {
-    holder: K,
+impl<'a, S: Store> Model for Draft<'a, S> {
+    ghost Value = { Contents };
+
+    ghost view = { λ d. S.Store.contents d.store.now };
+
+    ghost invariant = { λ d. Legal (S.Store.contents d.store.now).model };
 }
 
-impl<K: Holder> Draft<K> {
+// A store whose model is legal, once its draft is closed. Clauses see it as what the store holds.
+#[derive(Drop)]
+pub struct Working<'a, S: Store> {
+    store: &'a mut S,
+}
+
+impl<'a, S: Store> Model for Working<'a, S> {
+    ghost Value = { Contents };
+
+    ghost view = { λ w. S.Store.contents w.store.now };
+
+    ghost invariant = { λ w. Legal (S.Store.contents w.store.now).model };
+}
+
+impl<'a, S: Store> Draft<'a, S> {
     // Opening a draft empties its store.
-    pub fn open(mut holder: K) -> Draft<K>
-        ensures { K.Holder.contents result.holder ≡ emptied (K.Holder.contents holder) }
+    pub fn open(store: &'a mut S) -> Draft<'a, S>
+        ensures { result ≡ emptied (S.Store.contents store.old) }
     {
-        holder.apply(&Clear {});
-        Draft { holder }
+        remove_all(&mut *store);
+        Draft { store }
     }
 
     // Removes everything that was laid.
     pub fn clear(&mut self)
-        ensures { K.Holder.contents self.new.holder ≡ emptied (K.Holder.contents self.old.holder) }
+        ensures { self.new ≡ emptied self.old }
     {
-        self.holder.apply(&Clear {});
+        remove_all(&mut *self.store);
     }
 
     // How many simplexes are held.
     pub fn held(&self) -> usize
-        ensures { result ≡ length (K.Holder.contents self.now.holder).model }
+        ensures value { result ≡ length self.now.model }
+        ensures stored { Stored self.now }
+        ensures legal { Legal self.now.model }
     {
-        let store = self.holder.store();
-        store.held()
+        (*self.store).held()
     }
 
     // Adds a simplex and its absent faces, and answers how many it added.
     pub fn lay(&mut self, vertices: &[u16]) -> Result<usize, ModelRefusal>
-        ensures { Lays (K.Holder.contents self.old.holder) (K.Holder.contents self.new.holder) vertices.now result }
+        ensures { Lays self.old self.new vertices.now result }
     {
-        match Simplex::of(vertices) {
-            Some(simplex) => self.holder.apply(&Lay { simplex }),
-            None => Err(ModelRefusal::Vertices),
-        }
+        let store = &mut *self.store;
+        let Some(simplex) = Simplex::of(vertices) else {
+            return Err(ModelRefusal::Vertices);
+        };
+        lay_simplex(store, &simplex)
     }
 
     // Marks a simplex and its faces with a part, and answers how many masks changed.
     pub fn mark(&mut self, part: u16, vertices: &[u16]) -> Result<usize, ModelRefusal>
-        ensures { Marks (K.Holder.contents self.old.holder) (K.Holder.contents self.new.holder) part vertices.now result }
+        ensures { Marks self.old self.new part vertices.now result }
     {
+        let store = &mut *self.store;
         if part == 0 {
             return Err(ModelRefusal::Part);
         }
         let Some(part) = Part::of(part) else {
             return Err(ModelRefusal::Part);
         };
-        match Simplex::of(vertices) {
-            Some(simplex) => self.holder.apply(&Mark { part, simplex }),
-            None => Err(ModelRefusal::Vertices),
-        }
+        let Some(simplex) = Simplex::of(vertices) else {
+            return Err(ModelRefusal::Vertices);
+        };
+        mark_simplex(store, part, &simplex)
     }
 
     // The working model of what is held.
-    pub fn close(self) -> Working<K>
-        ensures { result.holder ≡ self.holder }
+    pub fn close(self) -> Working<'a, S>
+        ensures { result ≡ self.entry }
     {
-        let Draft { holder } = self;
-        Working { holder }
+        let Draft { store } = self;
+        Working { store }
     }
 }
 
-impl<K: Holder> Working<K> {
+impl<'a, S: Store> Working<'a, S> {
     // How many simplexes are held.
     pub fn held(&self) -> usize
-        ensures { result ≡ length (K.Holder.contents self.now.holder).model }
+        ensures value { result ≡ length self.now.model }
+        ensures stored { Stored self.now }
+        ensures legal { Legal self.now.model }
     {
-        self.holder.store().held()
+        self.store.held()
     }
 
     // The mask of a simplex, 0 where it is absent.
     pub fn look(&self, vertices: &[u16]) -> Result<u8, ModelRefusal>
-        ensures { result ≡ look_answer (K.Holder.contents self.now.holder) vertices.now }
+        ensures { result ≡ look_answer self.now vertices.now }
     {
         let Some(simplex) = Simplex::of(vertices) else {
             return Err(ModelRefusal::Vertices);
         };
-        let store = self.holder.store();
-        if simplex.within(store.range()) {
-            Ok(store.look(&simplex))
+        if simplex.within(self.store.range()) {
+            Ok(self.store.look(&simplex))
         } else {
             Err(ModelRefusal::Range)
         }
@@ -105,10 +128,10 @@ impl<K: Holder> Working<K> {
 
     // The Euler number of the body or a part.
     pub fn euler(&self, part: u16) -> Result<i32, ModelRefusal>
-        ensures { result ≡ euler_answer (K.Holder.contents self.now.holder) part }
+        ensures { result ≡ euler_answer self.now part }
     {
         match Part::of(part) {
-            Some(part) => Ok(euler(self.holder.store(), part)),
+            Some(part) => Ok(euler(&*self.store, part)),
             None => Err(ModelRefusal::Part),
         }
     }

@@ -3,14 +3,13 @@
 
 #[cfg(test)]
 mod tests {
-    use holders::table_holder::TableHolder;
-    use model::holder::Holder;
     use model::refusal::ModelRefusal;
     use model::stages::{Draft, Working};
     use order::record::Record;
     use simplex::simplex::Simplex;
     use std::process::Abort;
     use std::test::Fail;
+    use store::meaning::Store;
     use table_store::records::TableStore;
 
     fn record() -> Result<Record<Simplex, u8>, Fail> {
@@ -28,24 +27,24 @@ mod tests {
         }
     }
 
-    fn lay<K: Holder>(draft: &mut Draft<K>, list: &[u16]) -> Result<usize, u8> {
+    fn lay<S: Store>(draft: &mut Draft<'_, S>, list: &[u16]) -> Result<usize, u8> {
         numbered(draft.lay(list))
     }
 
-    fn mark<K: Holder>(draft: &mut Draft<K>, part: u16, list: &[u16]) -> Result<usize, u8> {
+    fn mark<S: Store>(draft: &mut Draft<'_, S>, part: u16, list: &[u16]) -> Result<usize, u8> {
         numbered(draft.mark(part, list))
     }
 
-    fn look<K: Holder>(working: &Working<K>, list: &[u16]) -> Result<u8, u8> {
+    fn look<S: Store>(working: &Working<'_, S>, list: &[u16]) -> Result<u8, u8> {
         numbered(working.look(list))
     }
 
-    fn euler<K: Holder>(working: &Working<K>, part: u16) -> Result<i32, u8> {
+    fn euler<S: Store>(working: &Working<'_, S>, part: u16) -> Result<i32, u8> {
         numbered(working.euler(part))
     }
 
-    fn lone_tetrahedron<K: Holder + Drop>(rt: &impl Abort, holder: K) {
-        let mut draft = Draft::open(holder);
+    fn lone_tetrahedron<S: Store>(rt: &impl Abort, store: &mut S) {
+        let mut draft = Draft::open(store);
         assert_eq!(rt; lay(&mut draft, &[0, 1, 2, 3]), Ok(15));
         let working = draft.close();
         assert_eq!(rt; working.held(), 15);
@@ -53,8 +52,8 @@ mod tests {
         assert_eq!(rt; euler(&working, 0), Ok(1));
     }
 
-    fn no_tetrahedron<K: Holder + Drop>(rt: &impl Abort, holder: K) {
-        let mut draft = Draft::open(holder);
+    fn no_tetrahedron<S: Store>(rt: &impl Abort, store: &mut S) {
+        let mut draft = Draft::open(store);
         assert_eq!(rt; lay(&mut draft, &[0, 1, 2, 3]), Err(22));
         assert_eq!(rt; draft.held(), 0);
     }
@@ -63,17 +62,15 @@ mod tests {
     fn a_tetrahedron_needs_fifteen_records(rt: HostRuntime) -> Result<(), Fail> {
         let mut enough = [record()?; 15];
         let mut store = TableStore::open(&mut enough);
-        let mut holder = TableHolder::over(&mut store);
-        lone_tetrahedron(&rt, &mut holder);
+        lone_tetrahedron(&rt, &mut store);
         let mut short = [record()?; 14];
         let mut store = TableStore::open(&mut short);
-        let mut holder = TableHolder::over(&mut store);
-        no_tetrahedron(&rt, &mut holder);
+        no_tetrahedron(&rt, &mut store);
         Ok(())
     }
 
-    fn ring<K: Holder + Drop>(rt: &impl Abort, holder: K) {
-        let mut draft = Draft::open(holder);
+    fn ring<S: Store>(rt: &impl Abort, store: &mut S) {
+        let mut draft = Draft::open(store);
         let added = [
             lay(&mut draft, &[0, 1]),
             lay(&mut draft, &[0, 2]),
@@ -83,8 +80,8 @@ mod tests {
         assert_eq!(rt; euler(&draft.close(), 0), Ok(0));
     }
 
-    fn hollow_tetrahedron<K: Holder + Drop>(rt: &impl Abort, holder: K) {
-        let mut draft = Draft::open(holder);
+    fn hollow_tetrahedron<S: Store>(rt: &impl Abort, store: &mut S) {
+        let mut draft = Draft::open(store);
         let added = [
             lay(&mut draft, &[0, 1, 2]),
             lay(&mut draft, &[0, 1, 3]),
@@ -95,8 +92,8 @@ mod tests {
         assert_eq!(rt; euler(&draft.close(), 0), Ok(2));
     }
 
-    fn five_tetrahedra<K: Holder + Drop>(rt: &impl Abort, holder: K) {
-        let mut draft = Draft::open(holder);
+    fn five_tetrahedra<S: Store>(rt: &impl Abort, store: &mut S) {
+        let mut draft = Draft::open(store);
         let added = [
             lay(&mut draft, &[0, 1, 2, 3]),
             lay(&mut draft, &[0, 1, 2, 4]),
@@ -110,8 +107,8 @@ mod tests {
         assert_eq!(rt; euler(&working, 0), Ok(0));
     }
 
-    fn marked_triangles<K: Holder + Drop>(rt: &impl Abort, holder: K) {
-        let mut draft = Draft::open(holder);
+    fn marked_triangles<S: Store>(rt: &impl Abort, store: &mut S) {
+        let mut draft = Draft::open(store);
         let added = [lay(&mut draft, &[0, 1, 2]), lay(&mut draft, &[0, 1, 3])];
         assert_eq!(rt; added, [Ok(7), Ok(4)]);
         let changed = [
@@ -138,16 +135,15 @@ mod tests {
     fn shapes_one_after_another(rt: HostRuntime) -> Result<(), Fail> {
         let mut records = [record()?; 40];
         let mut store = TableStore::open(&mut records);
-        let mut holder = TableHolder::over(&mut store);
-        ring(&rt, &mut holder);
-        hollow_tetrahedron(&rt, &mut holder);
-        five_tetrahedra(&rt, &mut holder);
-        marked_triangles(&rt, &mut holder);
+        ring(&rt, &mut store);
+        hollow_tetrahedron(&rt, &mut store);
+        five_tetrahedra(&rt, &mut store);
+        marked_triangles(&rt, &mut store);
         Ok(())
     }
 
-    fn lay_refusals<K: Holder + Drop>(rt: &impl Abort, holder: K) {
-        let mut draft = Draft::open(holder);
+    fn lay_refusals<S: Store>(rt: &impl Abort, store: &mut S) {
+        let mut draft = Draft::open(store);
         let vertices = [
             lay(&mut draft, &[]),
             lay(&mut draft, &[0, 1, 2, 3, 4]),
@@ -171,8 +167,8 @@ mod tests {
         );
     }
 
-    fn mark_refusals<K: Holder + Drop>(rt: &impl Abort, holder: K) {
-        let mut draft = Draft::open(holder);
+    fn mark_refusals<S: Store>(rt: &impl Abort, store: &mut S) {
+        let mut draft = Draft::open(store);
         assert_eq!(rt; lay(&mut draft, &[5, 4095]), Ok(3));
         assert_eq!(rt;
             [mark(&mut draft, 0, &[]), mark(&mut draft, 8, &[5])],
@@ -197,8 +193,8 @@ mod tests {
         );
     }
 
-    fn question_refusals<K: Holder + Drop>(rt: &impl Abort, holder: K) {
-        let working = Draft::open(holder).close();
+    fn question_refusals<S: Store>(rt: &impl Abort, store: &mut S) {
+        let working = Draft::open(store).close();
         let vertices = [
             look(&working, &[]),
             look(&working, &[0, 1, 2, 3, 4]),
@@ -216,10 +212,9 @@ mod tests {
     fn refusals(rt: HostRuntime) -> Result<(), Fail> {
         let mut records = [record()?; 4];
         let mut store = TableStore::open(&mut records);
-        let mut holder = TableHolder::over(&mut store);
-        lay_refusals(&rt, &mut holder);
-        mark_refusals(&rt, &mut holder);
-        question_refusals(&rt, &mut holder);
+        lay_refusals(&rt, &mut store);
+        mark_refusals(&rt, &mut store);
+        question_refusals(&rt, &mut store);
         Ok(())
     }
 }

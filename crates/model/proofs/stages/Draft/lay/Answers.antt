@@ -1,7 +1,13 @@
-use Rattle.std.proofs.Common.{rules}
-use Rattle.model.specs.Changes.{lays}
+use Rattle.simplex.specs.Simplexes.{vertices}
+use Rattle.model.specs.Changes.{lays, laid_keeps_legal}
 use Rattle.model.proofs.stages.Draft.lay.Goals as goal
 
--- what the edit answers and leaves is what the call does
-pub returns-in-Some : goal.returns-in-Some
-returns-in-Some g c = lays _ _ _ _ _ (g.K.Holder.stored _) (g.K.Holder.legal _) c.in-Some.ensures (search rules) (search rules)
+pub invariant_of-self-2 : goal.invariant_of-self-2
+invariant_of-self-2 g c =
+    let before = c.self.inside.store.now in
+    rw c.lay_simplex.ensures.after (laid_keeps_legal (g.S.Store.contents before) (vertices c.in-Some.simplex) c.in-Some.simplex.rising (g.S.Store.stored before) c.self.invariant)
+
+pub returns : goal.returns
+returns g c =
+    let before = c.self.inside.store.now in
+    rw (← c.self.view_is) (lays _ _ _ _ _ (g.S.Store.stored before) (invariant_of-self-2 g c) c.in-Some.ensures c.lay_simplex.ensures.value c.lay_simplex.ensures.after)

@@ -2,11 +2,11 @@ use Rattle.std.proofs.Common.{◌<◌, rules}
 use Rattle.complex.specs.Model.{mask}
 use Rattle.simplex.specs.Simplexes.{vertices}
 use Rattle.model.specs.Changes.{faces_held}
-use Rattle.model.proofs.edits.MarkEdit.run.Goals as goal
+use Rattle.model.proofs.edits.mark_simplex.Goals as goal
 
 pub mark_faces-requires : goal.mark_faces-requires
 mark_faces-requires g c =
     let before = g.S.Store.contents c.args.store.now in
-    let s = vertices c.args.self.now.simplex in
+    let s = vertices c.args.simplex.now in
     let held : 0 < mask before.model s = search rules in
     record { range = search rules; held = faces_held before.model s c.requires held }
