@@ -182,4 +182,4 @@ lays_add_the_absent (f ∷ fs) M u pos d =
         turned a Greater h e = refl
 
         apart : (g : List ℕ) → is_eq (colex f g) ≡ false → is_eq (colex g f) ≡ false
-        apart g e = turned (colex f g) (colex g f) (colex_lawful.flip f g) e
+        apart g e = turned (colex f g) (colex g f) (colex_lawful.antisymm f g) e

@@ -1,9 +1,9 @@
 -- The order of simplexes obeys the laws of an order, and tells simplexes apart.
 use Rattle.std.proofs.Common.{◌≡◌, ℕ, List, [], ◌∷◌, Ordering, Less, Equal, Greater, sym, refl, ap, ◌∙◌, arith}
-use Rattle.std.specs.Cmp.{nat_cmp_total}
+use Rattle.std.specs.Cmp.{IsTotalOrder, nat_cmp_total}
 use Rattle.std.specs.Ordering.{ordering_then, ordering_reverse, nat_cmp}
 use Rattle.std.proofs.lemmas.Bool.Decides.{nat_tests}
-use Rattle.order.specs.Assoc.{Lawful, Exact}
+use Rattle.order.specs.Assoc.{Exact}
 use Rattle.complex.specs.Simplex.{colex}
 
 then_flips : (a b s t : Ordering) → a ≡ ordering_reverse b → s ≡ ordering_reverse t → ordering_then a s ≡ ordering_reverse (ordering_then b t)
@@ -45,9 +45,9 @@ colex_chain (a ∷ x) (b ∷ y) [] p q = cc
 colex_chain (a ∷ x) (b ∷ y) (c ∷ z) p q =
     then_chains (colex x y) (colex y z) (colex x z) a b c (colex_chain x y z) (λ e. ap (λ w. colex w z) (colex_exact x y e)) (λ e. ap (colex x) (sym (colex_exact y z e))) p q
 
-pub colex_lawful : Lawful colex
+pub colex_lawful : IsTotalOrder colex
 colex_lawful = record {
-  flip = colex_flip;
-  chain = colex_chain;
-  alike = λ x y z e. ap (λ w. colex w z) (colex_exact x y e);
+  antisymm = colex_flip;
+  trans = colex_chain;
+  congr = λ x y z e. ap (λ w. colex w z) (colex_exact x y e);
 }

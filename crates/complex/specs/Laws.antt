@@ -1,7 +1,8 @@
 -- The laws above the definitions, in the subject's words.
 use Rattle.std.specs.Prelude.{◌≡◌, ℕ, ◌<◌, true, List, ◌∷◌, ◌++◌, length, Some, None, ◌≢◌}
 use Rattle.std.specs.declared.cmp.Ordering.TheVariants.{Less}
-use Rattle.order.specs.Assoc.{Lawful, Exact, lookup}
+use Rattle.std.specs.Cmp.{IsTotalOrder}
+use Rattle.order.specs.Assoc.{Exact, lookup}
 use Rattle.complex.specs.Model.{Model, mask, write, Sorted}
 use Rattle.complex.specs.Simplex.{colex, Rising, Face, faces, among}
 
@@ -9,7 +10,7 @@ use Rattle.complex.specs.Simplex.{colex, Rising, Face, faces, among}
 pub record OrderAsTold : Type 0 where
   pub fewer : (s t : List ℕ) → length s < length t → colex s t ≡ Less
   pub last : (xs ys zs : List ℕ) (a b : ℕ) → length xs ≡ length ys → a < b → colex (xs ++ (a ∷ zs)) (ys ++ (b ∷ zs)) ≡ Less
-  pub lawful : Lawful colex
+  pub lawful : IsTotalOrder colex
   pub exact : Exact colex
 
 -- a write gives one simplex its mask, where 0 removes it, leaves all others, and keeps the order

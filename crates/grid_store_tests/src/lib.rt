@@ -4,7 +4,6 @@
 #[cfg(test)]
 mod tests {
     use grid_store::grid::GridStore;
-    use order::keys::Order;
     use simplex::simplex::Simplex;
     use std::cmp::Ordering;
     use std::process::Abort;
@@ -21,7 +20,7 @@ mod tests {
 
     fn is(found: Option<Simplex>, s: &Simplex) -> bool {
         match found {
-            Some(t) => t.compare(s) == Ordering::Equal,
+            Some(t) => t.cmp(s) == Ordering::Equal,
             None => false,
         }
     }

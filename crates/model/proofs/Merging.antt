@@ -195,8 +195,8 @@ lookup_later a q (r ∷ rs) h = go (lookup_later a q rs h) (colex r.key a) refl
     passed e = ap (λ o. by o (lookup colex q rs) (Some r.value) None) e
 
     go : lookup colex q (later colex a rs) ≡ lookup colex q rs → (o : Ordering) → colex r.key a ≡ o → lookup colex q (by o (later colex a rs) rs (r ∷ rs)) ≡ lookup colex q (r ∷ rs)
-    go more Less e = more ∙ sym (passed (colex_lawful.chain r.key a q e h))
-    go more Equal e = sym (passed (colex_lawful.alike r.key a q e ∙ h))
+    go more Less e = more ∙ sym (passed (colex_lawful.trans r.key a q e h))
+    go more Equal e = sym (passed (colex_lawful.congr r.key a q e ∙ h))
     go more Greater e = refl
 
 -- a held simplex that is later is the next one, or later than that

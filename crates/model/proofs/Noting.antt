@@ -39,7 +39,7 @@ less_keeps_order u (x ∷ s) (y ∷ t) r c h k =
     let more : has u s ≡ true → has u t ≡ true → colex (less u s) (less u t) ≡ colex s t = less_keeps_order u s t r.1 c.1 in
     let left : u ≡ x → has u t ≡ true → colex s (y ∷ less u t) ≡ colex s t = λ e i. under_greater u y s t (rw e r.0) c i in
     let right : u ≡ y → has u s ≡ true → colex (x ∷ less u s) t ≡ colex s t =
-    λ e i. colex_lawful.flip (x ∷ less u s) t ∙ ap ordering_reverse (under_greater u x t s (rw e c.0) r i) ∙ sym (colex_lawful.flip s t) in
+    λ e i. colex_lawful.antisymm (x ∷ less u s) t ∙ ap ordering_reverse (under_greater u x t s (rw e c.0) r i) ∙ sym (colex_lawful.antisymm s t) in
     let same : colex s t ≡ Equal → has u s ≡ has u t = λ e. ap (has u) (colex_exact s t e) in
     let no_left : u ≡ x → has u s ≡ false = λ e. under_lacks x u s (omega arith) r.0 in
     let no_right : u ≡ y → has u t ≡ false = λ e. under_lacks y u t (omega arith) c.0 in
@@ -62,7 +62,7 @@ before_member x q (y ∷ ys) b (inr m) = before_member x q ys b.1 m
 
 before_less : (x y : List ℕ) (ys : List (List ℕ)) → colex x y ≡ Less → Before y ys → Before x ys
 before_less x y [] e b = tt
-before_less x y (z ∷ zs) e b = (colex_lawful.chain x y z e b.0, before_less x y zs e b.1)
+before_less x y (z ∷ zs) e b = (colex_lawful.trans x y z e b.0, before_less x y zs e b.1)
 
 never_less : (x : List ℕ) → colex x x ≡ Less → ⊥
 never_less x e = let s = self_same colex colex_lawful x in let z : ◌≡◌ {A = ℕ} 0 1 = cc in omega arith
@@ -83,7 +83,7 @@ same_members (x ∷ xs) (y ∷ ys) o c f g = joined heads (same_members xs ys o.
         go : Member x (y ∷ ys) → Member y (x ∷ xs) → x ≡ y
         go (inl e) m = e
         go (inr m) (inl e) = sym e
-        go (inr m) (inr k) = absurd (never_less x (colex_lawful.chain x y x (before_member x y xs o.0 k) (before_member y x ys c.0 m)))
+        go (inr m) (inr k) = absurd (never_less x (colex_lawful.trans x y x (before_member x y xs o.0 k) (before_member y x ys c.0 m)))
 
     into : (q : List ℕ) → Member q xs → Member q ys
     into q m = go (f q (inr m))

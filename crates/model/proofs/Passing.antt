@@ -2,11 +2,12 @@
 use Rattle.std.proofs.Common.{◌≡◌, Bool, true, false, cond, List, [], ◌∷◌, Some, None, filter, Option, Ordering, Less, Equal, Greater, sym, refl, ap, ◌∙◌}
 use Rattle.std.proofs.lemmas.Bool.{and_parts, and_from, cond-false}
 use Rattle.order.specs.declared.record.Record.{Record}
-use Rattle.order.specs.Assoc.{by, Lawful, Exact, before, rising, bind, put, later}
+use Rattle.std.specs.Cmp.{IsTotalOrder}
+use Rattle.order.specs.Assoc.{by, Exact, before, rising, bind, put, later}
 use Rattle.order.proofs.Puts.{before_alike, before_all}
 use Rattle.order.proofs.Ranks.{is_less, self_same, exchanged}
 
-module _ {K V : Type 0} (c : K → K → Ordering) (ok : Lawful c) where
+module _ {K V : Type 0} (c : K → K → Ordering) (ok : IsTotalOrder c) where
   -- all are later than a key that is less than all
   later_all : (q : K) (rows : List (Record K V)) → before c q rows ≡ true → later c q rows ≡ rows
   later_all q [] b = refl

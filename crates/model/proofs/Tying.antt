@@ -35,8 +35,8 @@ above_beside_plus u a (d ∷ s) (c ∷ t) l r h =
 plus_beside_above : (u b : ℕ) (s t : List ℕ) → u < b → Rising (b ∷ t) → has u s ≡ false → ordering_then (colex (plus u s) (b ∷ t)) Less ≡ ordering_then (colex s t) Less
 plus_beside_above u b s t l r h =
     let i = above_beside_plus u b t s l r h in
-    let j = colex_lawful.flip (plus u s) (b ∷ t) in
-    let k = colex_lawful.flip s t in
+    let j = colex_lawful.antisymm (plus u s) (b ∷ t) in
+    let k = colex_lawful.antisymm s t in
     turned (colex (plus u s) (b ∷ t)) (colex (b ∷ t) (plus u s)) (colex s t) (colex t s) i j k
   where
     turned : (a b c d : Ordering) → ordering_then b Greater ≡ ordering_then d Greater → a ≡ ordering_reverse b → c ≡ ordering_reverse d → ordering_then a Less ≡ ordering_then c Less
@@ -46,7 +46,7 @@ plus_beside_above u b s t l r h =
 plus_keeps_order : (u : ℕ) (s t : List ℕ) → Rising s → Rising t → has u s ≡ false → has u t ≡ false → colex (plus u s) (plus u t) ≡ colex s t
 plus_keeps_order u [] [] r q h k = self_same colex colex_lawful (u ∷ [])
 plus_keeps_order u [] (b ∷ t) r q h k = let i = empty_before_plus u t in grind (arith, nat_tests)
-plus_keeps_order u (a ∷ s) [] r q h k = let i = colex_lawful.flip (plus u s) [] ∙ ap ordering_reverse (empty_before_plus u s) in grind (arith, nat_tests)
+plus_keeps_order u (a ∷ s) [] r q h k = let i = colex_lawful.antisymm (plus u s) [] ∙ ap ordering_reverse (empty_before_plus u s) in grind (arith, nat_tests)
 plus_keeps_order u (a ∷ s) (b ∷ t) r q h k =
     let i : has u s ≡ false → has u t ≡ false → colex (plus u s) (plus u t) ≡ colex s t = plus_keeps_order u s t r.1 q.1 in
     let j : u < a → has u t ≡ false → ordering_then (colex (a ∷ s) (plus u t)) Greater ≡ ordering_then (colex s t) Greater = λ l e. above_beside_plus u a s t l r e in

@@ -10,7 +10,6 @@ ghost use Rattle.trail.specs.Past.{past, pending};
 ghost use Rattle.model.specs.Notes.{note_answer, first_with, gone_on, lesser};
 
 use crate::plus::mask_with;
-use order::keys::Order;
 use simplex::simplex::Simplex;
 use std::cmp::Ordering;
 use store::meaning::Store;
@@ -82,7 +81,7 @@ fn compare_bases(a: Option<Simplex>, b: Option<Simplex>) -> Ordering
         },
         Some(s) => match b {
             None => Ordering::Greater,
-            Some(t) => s.compare(&t),
+            Some(t) => s.cmp(&t),
         },
     }
 }

@@ -2,7 +2,8 @@
 use Rattle.std.proofs.Common.{◌≡◌, ◌≤◌, true, List, [], ◌∷◌, length, Some, None, Ordering, Less, Equal, Greater, sym, refl, ap, ◌∙◌, arith}
 use Rattle.std.proofs.lemmas.Bool.{and_parts}
 use Rattle.order.specs.declared.record.Record.{Record}
-use Rattle.order.specs.Assoc.{by, Lawful, before, rising, lookup, later}
+use Rattle.std.specs.Cmp.{IsTotalOrder}
+use Rattle.order.specs.Assoc.{by, before, rising, lookup, later}
 use Rattle.order.proofs.Ranks.{is_less, self_same}
 
 pub later_shorter : {K V : Type 0} (c : K → K → Ordering) (q : K) (rows : List (Record K V)) → length (later c q rows) ≤ length rows
@@ -14,7 +15,7 @@ later_shorter c q (r ∷ rs) = go (later_shorter c q rs) (c r.key q)
     go more Equal = omega arith
     go more Greater = omega arith
 
-module _ {K V : Type 0} (c : K → K → Ordering) (ok : Lawful c) where
+module _ {K V : Type 0} (c : K → K → Ordering) (ok : IsTotalOrder c) where
   before_later : (k q : K) (rows : List (Record K V)) → before c k rows ≡ true → before c k (later c q rows) ≡ true
   before_later k q [] b = refl
   before_later k q (r ∷ rs) b = go (before_later k q rs (and_parts _ _ b).1) (c r.key q)

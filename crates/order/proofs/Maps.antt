@@ -3,7 +3,8 @@ use Rattle.std.proofs.Common.{◌≡◌, ℕ, ◌+◌, true, List, [], ◌∷◌
 use Rattle.std.specs.Ordering.{ordering_reverse}
 use Rattle.std.proofs.lemmas.Bool.{and_parts}
 use Rattle.order.specs.declared.record.Record.{Record}
-use Rattle.order.specs.Assoc.{by, Lawful, Exact, before, rising, lookup, bind, put, total, weigh}
+use Rattle.std.specs.Cmp.{IsTotalOrder}
+use Rattle.order.specs.Assoc.{by, Exact, before, rising, lookup, bind, put, total, weigh}
 use Rattle.order.proofs.Ranks.{is_less, self_same, exchanged, alike_right}
 use Rattle.order.proofs.Puts.{before_less, before_alike, before_all}
 
@@ -15,7 +16,7 @@ total_bind : {K V : Type 0} (w : K → V → ℕ) (k : K) (o : Option V) (rows :
 total_bind w k None rows = omega arith
 total_bind w k (Some v) rows = refl
 
-module _ {K V : Type 0} (c : K → K → Ordering) (ok : Lawful c) where
+module _ {K V : Type 0} (c : K → K → Ordering) (ok : IsTotalOrder c) where
   -- a key that is less than all is not there
   pub lookup_before : (q : K) (rows : List (Record K V)) → before c q rows ≡ true → lookup c q rows ≡ None
   lookup_before q [] b = refl
@@ -29,7 +30,7 @@ module _ {K V : Type 0} (c : K → K → Ordering) (ok : Lawful c) where
       go Less e = refl
       go Equal e = lookup_before q rows (before_alike c ok k q rows (exchanged c ok q k Equal e) b)
       go Greater e = refl
-  lookup_bind k q (Some v) rows b = ap (λ a. by a (lookup c q rows) (Some v) None) (ok.flip k q) ∙ go (c q k) refl
+  lookup_bind k q (Some v) rows b = ap (λ a. by a (lookup c q rows) (Some v) None) (ok.antisymm k q) ∙ go (c q k) refl
     where
       go : (a : Ordering) → c q k ≡ a → by (ordering_reverse a) (lookup c q rows) (Some v) None ≡ by a (lookup c q rows) (Some v) (lookup c q rows)
       go Less e = sym (lookup_before q rows (before_less c ok q k rows e b))
@@ -56,9 +57,9 @@ module _ {K V : Type 0} (c : K → K → Ordering) (ok : Lawful c) where
         replaced : c r.key k ≡ Equal → (a : Ordering) → c q k ≡ a → by a (lookup c q rs) o (lookup c q rs) ≡ by a old o old
         replaced e Less f =
             let b = before_less c ok q r.key rs (alike_right c ok r.key k q e ∙ f) first in
-            lookup_before q rs b ∙ sym (ap (λ a. by a (lookup c q rs) (Some r.value) None) (ok.alike r.key k q e ∙ exchanged c ok q k Less f))
+            lookup_before q rs b ∙ sym (ap (λ a. by a (lookup c q rs) (Some r.value) None) (ok.congr r.key k q e ∙ exchanged c ok q k Less f))
         replaced e Equal f = refl
-        replaced e Greater f = sym (ap (λ a. by a (lookup c q rs) (Some r.value) None) (ok.alike r.key k q e ∙ exchanged c ok q k Greater f))
+        replaced e Greater f = sym (ap (λ a. by a (lookup c q rs) (Some r.value) None) (ok.congr r.key k q e ∙ exchanged c ok q k Greater f))
 
         go : lookup c q (put c k o rs) ≡ by (c q k) (lookup c q rs) o (lookup c q rs) → (a : Ordering) → c r.key k ≡ a →
             lookup c q (by a (r ∷ put c k o rs) (bind k o rs) (bind k o (r ∷ rs))) ≡ by (c q k) old o old

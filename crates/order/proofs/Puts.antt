@@ -3,19 +3,20 @@ use Rattle.std.proofs.Common.{◌≡◌, true, List, [], ◌∷◌, Some, None, 
 use Rattle.std.specs.Ordering.{is_lt}
 use Rattle.std.proofs.lemmas.Bool.{and_parts, and_from}
 use Rattle.order.specs.declared.record.Record.{Record}
-use Rattle.order.specs.Assoc.{by, Lawful, before, rising, bind, put}
+use Rattle.std.specs.Cmp.{IsTotalOrder}
+use Rattle.order.specs.Assoc.{by, before, rising, bind, put}
 use Rattle.order.proofs.Ranks.{is_less, exchanged}
 
-module _ {K V : Type 0} (c : K → K → Ordering) (ok : Lawful c) where
+module _ {K V : Type 0} (c : K → K → Ordering) (ok : IsTotalOrder c) where
   pub before_less : (x y : K) (rows : List (Record K V)) → c x y ≡ Less → before c y rows ≡ true → before c x rows ≡ true
   before_less x y [] e b = refl
   before_less x y (r ∷ rs) e b =
-      and_from _ _ (ap is_lt (ok.chain x y r.key e (is_less _ (and_parts _ _ b).0))) (before_less x y rs e (and_parts _ _ b).1)
+      and_from _ _ (ap is_lt (ok.trans x y r.key e (is_less _ (and_parts _ _ b).0))) (before_less x y rs e (and_parts _ _ b).1)
 
   pub before_alike : (x y : K) (rows : List (Record K V)) → c x y ≡ Equal → before c x rows ≡ true → before c y rows ≡ true
   before_alike x y [] e b = refl
   before_alike x y (r ∷ rs) e b =
-      and_from _ _ (ap is_lt (sym (ok.alike x y r.key e)) ∙ (and_parts _ _ b).0) (before_alike x y rs e (and_parts _ _ b).1)
+      and_from _ _ (ap is_lt (sym (ok.congr x y r.key e)) ∙ (and_parts _ _ b).0) (before_alike x y rs e (and_parts _ _ b).1)
 
   before_bind : (x k : K) (o : Option V) (rows : List (Record K V)) → c x k ≡ Less → before c x rows ≡ true → before c x (bind k o rows) ≡ true
   before_bind x k None rows e b = b

@@ -16,12 +16,6 @@ by Less x y z = x
 by Equal x y z = y
 by Greater x y z = z
 
--- the laws of an order
-pub record Lawful {K : Type 0} (c : K → K → Ordering) : Type 0 where
-  pub flip : (x y : K) → c x y ≡ ordering_reverse (c y x)
-  pub chain : (x y z : K) → c x y ≡ Less → c y z ≡ Less → c x z ≡ Less
-  pub alike : (x y z : K) → c x y ≡ Equal → c x z ≡ c y z
-
 -- keys that the order calls the same are equal
 abbrev pub Exact : {K : Type 0} → (K → K → Ordering) → Type 0
 Exact {K} c = (x y : K) → c x y ≡ Equal → x ≡ y

@@ -1,5 +1,4 @@
-// Keys that have an order, and records of a key and its value.
+// Records of a key and its value, for every kind of key that has an order.
 #![tactic(auto)]
 
-pub mod keys;
 pub mod record;

@@ -1,5 +1,5 @@
 // A key with its value.
-#[derive(Clone, Copy)]
+#[derive(Clone, Copy, Debug, PartialEq, Eq)]
 pub struct Record<K, V> {
     pub key: K,
     pub value: V,

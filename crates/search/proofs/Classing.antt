@@ -2,7 +2,8 @@
 use Rattle.std.proofs.Common.{◌≡◌, Bool, true, false, cond, ◌⊎◌, List, [], ◌∷◌, ◌++◌, Some, None, fold, filter, Option, Ordering, Less, Equal, Greater, sym, refl, ap, ◌∙◌, subst, inl, inr, append_assoc}
 use Rattle.std.specs.Ordering.{is_eq, is_lt}
 use Rattle.std.proofs.lemmas.Bool.{and_parts, cond-true, true≢false}
-use Rattle.order.specs.Assoc.{by, Lawful, before, lookup}
+use Rattle.std.specs.Cmp.{IsTotalOrder}
+use Rattle.order.specs.Assoc.{by, before, lookup}
 use Rattle.order.specs.Chain.{here, step}
 use Rattle.order.specs.declared.record.Record.{Record}
 use Rattle.order.proofs.Chains.{chain_then, chain_back}
@@ -112,7 +113,7 @@ module _ {N : Type 0} (c : N → N → Ordering) where
       go (Some a) None = e
       go (Some a) (Some b) = on a b (c a b)
 
-  module _ (ok : Lawful c) where
+  module _ (ok : IsTotalOrder c) where
     before_member : (k y : N) (xs : List N) → before c k (own xs) ≡ true → Member y xs → c k y ≡ Less
     before_member k y [] b m = absurd m
     before_member k y (x ∷ xs) b (inl e) = ap (c k) e ∙ is_less _ (and_parts _ _ b).0
@@ -163,7 +164,7 @@ module _ {N : Type 0} (c : N → N → Ordering) where
           some x n = let s = has.some x n in (relabel c a b s.0, lookup_renamed a b x rows ∙ ap (mapped (relabel c a b)) s.1)
 
           lower : (x : N) → is_lt (c x a) ≡ false → (o : Ordering) → c x b ≡ o → is_lt o ≡ false
-          lower x low Less e = absurd (true≢false (sym (ap is_lt (ok.chain x b a e less)) ∙ low))
+          lower x low Less e = absurd (true≢false (sym (ap is_lt (ok.trans x b a e less)) ∙ low))
           lower x low Equal e = refl
           lower x low Greater e = refl
 

@@ -3,7 +3,8 @@ use Rattle.std.proofs.Common.{◌≡◌, ℕ, zero, suc, ◌+◌, ◌<◌, Bool,
 use Rattle.std.specs.Ordering.{is_eq, is_lt}
 use Rattle.std.proofs.lemmas.List.{length-map, get_or-map, get_or-take, map_more, take-map}
 use Rattle.std.proofs.lemmas.Bool.{and_parts, and_from}
-use Rattle.order.specs.Assoc.{by, Lawful, before, rising, lookup}
+use Rattle.std.specs.Cmp.{IsTotalOrder}
+use Rattle.order.specs.Assoc.{by, before, rising, lookup}
 use Rattle.order.specs.declared.record.Record.{Record}
 use Rattle.order.proofs.Ranks.{self_same}
 use Rattle.table.proofs.Places.{equal_is_below, found_equal, lookup_found}
@@ -50,7 +51,7 @@ module _ {N : Type 0} (c : N → N → Ordering) where
       go Equal = refl
       go Greater = keys_renamed a b rows
 
-  module _ (ok : Lawful c) where
+  module _ (ok : IsTotalOrder c) where
     -- the label at a place is that of the key there
     pub lookup_at : (rows : List (Record N N)) (n : ℕ) (d : Record N N) → rising c rows ≡ true → n < length rows → lookup c (get_or rows n d).key rows ≡ Some (get_or rows n d).value
     lookup_at rows n d u h =

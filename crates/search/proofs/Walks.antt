@@ -1,6 +1,7 @@
 -- Going through the nodes, from one to the next.
 use Rattle.std.proofs.Common.{◌≡◌, ℕ, List, [], ◌∷◌, Some, None, Option, Ordering, Less, Equal, Greater, sym, refl, ap, ◌∙◌, inl, inr, arith}
-use Rattle.order.specs.Assoc.{by, Lawful, later, first}
+use Rattle.std.specs.Cmp.{IsTotalOrder}
+use Rattle.order.specs.Assoc.{by, later, first}
 use Rattle.order.specs.declared.record.Record.{Record}
 use Rattle.order.proofs.Laters.{later_step}
 use Rattle.order.proofs.Ranks.{self_same}
@@ -26,7 +27,7 @@ pub record Rest {N : Type 0} (nodes : List N) (rows : List (Record N N)) : Type 
 all_rest : {N : Type 0} (nodes : List N) → Rest nodes (own nodes)
 all_rest nodes = record { some = nodes; are = refl; among = λ x m. m }
 
-module _ {N : Type 0} (c : N → N → Ordering) (ok : Lawful c) where
+module _ {N : Type 0} (c : N → N → Ordering) (ok : IsTotalOrder c) where
   later_rest : (a : N) (nodes : List N) → Rest nodes (later c a (own nodes))
   later_rest a [] = all_rest []
   later_rest a (x ∷ xs) = go (later_rest a xs) (c x a)

@@ -6,14 +6,13 @@ ghost use Rattle.search.specs.Classes.{counted, joined_on, Searches};
 use crate::classes::Classes;
 use crate::joining::Joining;
 use crate::labels::{count_own, unite};
-use order::keys::Order;
 use order::record::Record;
 use table::front::front;
 use table::rows::Table;
 
 // How many nodes there are, if there are no more than `room`.
 fn count<J: Joining>(graph: &J, room: usize) -> Option<usize>
-    ensures sorted { Ordered J.Node.Order.ranks (J.Joining.nodes graph.now) }
+    ensures sorted { Ordered J.Node.Ord.cmp (J.Joining.nodes graph.now) }
     ensures value { result ≡ counted room (length (J.Joining.nodes graph.now)) }
 {
     let mut n = 0;
@@ -44,8 +43,8 @@ fn list<J: Joining>(graph: &J, rows: &mut [Record<J::Node, J::Node>])
 // Makes the class of the node at a place one with those of the earlier nodes that it is joined with.
 fn join<J: Joining>(graph: &J, rows: &mut [Record<J::Node, J::Node>], at: usize)
     requires within { at < length rows.old }
-    requires sorted { Ordered J.Node.Order.ranks (keys rows.old) }
-    ensures { (d : _) → rows.new ≡ joined_on J.Node.Order.ranks (J.Joining.joins graph.now) (take at (keys rows.old)) rows.old (slice_index_or rows.old at d).key }
+    requires sorted { Ordered J.Node.Ord.cmp (keys rows.old) }
+    ensures { (d : _) → rows.new ≡ joined_on J.Node.Ord.cmp (J.Joining.joins graph.now) (take at (keys rows.old)) rows.old (slice_index_or rows.old at d).key }
 {
     let node = rows[at].key;
     let mut from = 0;
@@ -58,7 +57,7 @@ fn join<J: Joining>(graph: &J, rows: &mut [Record<J::Node, J::Node>], at: usize)
 // Gathers the nodes into classes. The first records then hold the nodes in order, each with the least node of its class.
 // None is answered, and nothing is written, where there are fewer records than nodes.
 pub fn search<J: Joining>(graph: &J, rows: &mut [Record<J::Node, J::Node>]) -> Option<Classes>
-    ensures { Searches J.Node.Order.ranks (J.Joining.joins graph.now) (J.Joining.nodes graph.now) rows.old rows.new result }
+    ensures { Searches J.Node.Ord.cmp (J.Joining.joins graph.now) (J.Joining.nodes graph.now) rows.old rows.new result }
 {
     let n = count(graph, rows.len())?;
     list(graph, rows);

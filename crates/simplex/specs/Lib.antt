@@ -1,2 +1,4 @@
 pub mod Shapes
 pub mod Simplexes
+pub mod Alike
+pub mod FacesLeft

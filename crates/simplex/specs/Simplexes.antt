@@ -1,10 +1,13 @@
 -- A simplex of the code by the list of its vertices.
-use Rattle.std.specs.Prelude.{ℕ, zero, suc, cond, List, [], ◌∷◌, length, Some, None, Option, nat_le}
+use Rattle.std.specs.Prelude.{◌≡◌, ℕ, cond, List, [], length, Some, None, Option, Result, nat_le}
 use Rattle.std.specs.declared.cmp.Ordering.{Ordering}
+use Rattle.std.specs.List.{slice_get}
 use Rattle.std.specs.Option.{option_map}
+use Rattle.std.specs.Result.{result_ok}
 use Rattle.complex.specs.Simplex.{colex, proper}
 use Rattle.simplex.specs.Shapes.{corners}
 use Rattle.simplex.specs.declared.simplex.Simplex.{Simplex}
+use Rattle.simplex.specs.declared.simplex.makes.NotRising.{NotRising}
 
 abbrev pub vertices : Simplex → List ℕ
 vertices s = corners s.shape
@@ -26,12 +29,14 @@ found o = option_map vertices o
 abbrev pub checked : List ℕ → Option (List ℕ)
 checked s = cond (proper s) (Some s) None
 
+-- a list makes the simplex with these vertices, if they are one to four in strictly rising order
+abbrev pub Makes : List ℕ → Result Simplex NotRising → Type 0
+Makes s r = found (result_ok r) ≡ checked s
+
 -- the list, unless it has five vertices
 abbrev pub fitted : List ℕ → Option (List ℕ)
 fitted s = cond (nat_le (length s) 4) (Some s) None
 
 -- the element at a place, if there is one
 abbrev pub nth : {X : Type 0} → List X → ℕ → Option X
-nth [] i = None
-nth (x ∷ xs) zero = Some x
-nth (x ∷ xs) (suc i) = nth xs i
+nth xs i = slice_get xs i

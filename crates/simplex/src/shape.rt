@@ -1,5 +1,5 @@
 // The four kinds of simplex, each with its vertices.
-#[derive(Clone, Copy)]
+#[derive(Clone, Copy, Debug, PartialEq, Eq)]
 pub enum Shape {
     Point(u16),
     Edge(u16, u16),

@@ -4,7 +4,8 @@ use Rattle.std.specs.Ordering.{is_lt}
 use Rattle.std.proofs.lemmas.List.{get_or_default}
 use Rattle.std.proofs.lemmas.Bool.{and_parts, cases_eq}
 use Rattle.order.specs.declared.record.Record.{Record}
-use Rattle.order.specs.Assoc.{by, Lawful, before, rising, lookup, bind, put, later}
+use Rattle.std.specs.Cmp.{IsTotalOrder}
+use Rattle.order.specs.Assoc.{by, before, rising, lookup, bind, put, later}
 use Rattle.order.proofs.Ranks.{is_less, alike_right}
 use Rattle.table.specs.Places.{below}
 
@@ -45,13 +46,13 @@ module _ {K V : Type 0} (c : K → K → Ordering) where
       ap suc (below_is k rs n (omega arith) (λ i d h. all (suc i) d (omega arith)) (λ d h. not d (omega arith)))
       ∙ sym (ap (λ a. by a (suc (below c k rs)) zero zero) (all zero r (omega arith)))
 
-  module _ (ok : Lawful c) where
+  module _ (ok : IsTotalOrder c) where
     left_all : (k : K) (rows : List (Record K V)) (n : ℕ) → n ≤ length rows → rising c rows ≡ true → Left c k rows n → (i : ℕ) (d : Record K V) → i < n → c (get_or rows i d).key k ≡ Less
     left_all k rows zero le u left i d h = absurd (omega arith)
     left_all k rows (suc n) le u left i d h =
         let e : suc n - 1 ≡ n = omega arith in
         let last : c (get_or rows n d).key k ≡ Less = subst (λ m. c (get_or rows m d).key k ≡ Less) e (left d (omega arith)) in
-        ⊎_elim (λ q. subst (λ m. c (get_or rows m d).key k ≡ Less) (sym q) last) (λ ne. ok.chain _ _ k (rising_at rows i n d u (omega arith) (omega arith)) last) (cases_eq i n)
+        ⊎_elim (λ q. subst (λ m. c (get_or rows m d).key k ≡ Less) (sym q) last) (λ ne. ok.trans _ _ k (rising_at rows i n d u (omega arith) (omega arith)) last) (cases_eq i n)
 
     -- a place with a lesser record before it and none at it has all the lesser records before it
     pub place_is_below : (k : K) (rows : List (Record K V)) (n : ℕ) → n ≤ length rows → rising c rows ≡ true → Left c k rows n → Right c k rows n → n ≡ below c k rows

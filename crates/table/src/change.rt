@@ -6,18 +6,17 @@ ghost use Rattle.table.specs.Changes.{PutAmong, KeepsRest, RemovedFrom};
 use crate::front::front;
 use crate::search::seek;
 use crate::shift::{close_gap, insert_at};
-use order::keys::Order;
 use order::record::Record;
 
 // How many records are in use after a key is given a value, or None where it is new and no record is free.
-pub(crate) fn put<K: Order + Copy, V: Copy>(
+pub(crate) fn put<K: Ord + Copy, V: Copy>(
     rows: &mut [Record<K, V>],
     len: usize,
     key: K,
     value: V,
 ) -> Option<usize>
     ensures rest { KeepsRest len rows.old rows.new result }
-    ensures does { len ≤ length rows.old → rising K.Order.ranks (take len rows.old) ≡ true → PutAmong K.Order.ranks key value len rows.old rows.new result }
+    ensures does { len ≤ length rows.old → rising K.Ord.cmp (take len rows.old) ≡ true → PutAmong K.Ord.cmp key value len rows.old rows.new result }
 {
     match seek(front(rows, len), &key) {
         Ok(at) => {
@@ -33,13 +32,13 @@ pub(crate) fn put<K: Order + Copy, V: Copy>(
 }
 
 // How many records are in use after a key is taken out.
-pub(crate) fn remove<K: Order + Copy, V: Copy>(
+pub(crate) fn remove<K: Ord + Copy, V: Copy>(
     rows: &mut [Record<K, V>],
     len: usize,
     key: &K,
 ) -> usize
     ensures rest { drop len rows.new ≡ drop len rows.old }
-    ensures does { len ≤ length rows.old → rising K.Order.ranks (take len rows.old) ≡ true → RemovedFrom K.Order.ranks key.now len rows.old rows.new result }
+    ensures does { len ≤ length rows.old → rising K.Ord.cmp (take len rows.old) ≡ true → RemovedFrom K.Ord.cmp key.now len rows.old rows.new result }
 {
     let used = front(rows, len);
     let n = used.len();

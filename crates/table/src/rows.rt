@@ -6,7 +6,6 @@ ghost use Rattle.table.specs.Held.{held, room, Good, Stored, Removed};
 use crate::change::{put, remove};
 use crate::front::front;
 use crate::search::{past, seek};
-use order::keys::Order;
 use order::record::Record;
 
 // Records that the caller lends; the first `len` are in use, in rising order of their keys.
@@ -16,11 +15,11 @@ pub struct Table<'a, K, V> {
     pub len: usize,
 }
 
-impl<'a, K: Order + Copy, V: Copy> Table<'a, K, V> {
+impl<'a, K: Ord + Copy, V: Copy> Table<'a, K, V> {
     // An empty table; nothing is written.
     pub fn open(records: &'a mut [Record<K, V>]) -> Table<'a, K, V>
         ensures held { held result ≡ [] }
-        ensures good { Good K.Order.ranks result }
+        ensures good { Good K.Ord.cmp result }
         ensures records { result.records.now ≡ records.old }
         ensures len { result.len ≡ 0 }
         ensures lender { result.records.ghost_name ≡ records.entry.ghost_name }
@@ -30,7 +29,7 @@ impl<'a, K: Order + Copy, V: Copy> Table<'a, K, V> {
 
     // The value at a key.
     pub fn look(&self, key: &K) -> Option<V>
-        ensures { Good K.Order.ranks self.now → result ≡ lookup K.Order.ranks key.now (held self.now) }
+        ensures { Good K.Ord.cmp self.now → result ≡ lookup K.Ord.cmp key.now (held self.now) }
     {
         let rows = front(self.records, self.len);
         match seek(rows, key) {
@@ -51,7 +50,7 @@ impl<'a, K: Order + Copy, V: Copy> Table<'a, K, V> {
 
     // The least key greater than a key.
     pub fn after(&self, key: &K) -> Option<K>
-        ensures { Good K.Order.ranks self.now → result ≡ next K.Order.ranks key.now (held self.now) }
+        ensures { Good K.Ord.cmp self.now → result ≡ next K.Ord.cmp key.now (held self.now) }
     {
         let rows = front(self.records, self.len);
         Some(rows.get(past(rows, key))?.key)
@@ -63,7 +62,7 @@ impl<'a, K: Order + Copy, V: Copy> Table<'a, K, V> {
         ensures lender { self.new.records.ghost_name ≡ self.old.records.ghost_name }
         ensures rest { drop (self.old.len + 1) self.new.records.now ≡ drop (self.old.len + 1) self.old.records.now }
         ensures unused { drop self.new.len self.new.records.now ≡ drop self.new.len self.old.records.now }
-        ensures does { Good K.Order.ranks self.old → Stored K.Order.ranks key value self.old self.new result }
+        ensures does { Good K.Ord.cmp self.old → Stored K.Ord.cmp key value self.old self.new result }
     {
         let len = self.len;
         match put(self.records, len, key, value) {
@@ -80,7 +79,7 @@ impl<'a, K: Order + Copy, V: Copy> Table<'a, K, V> {
         ensures room { room self.new ≡ room self.old }
         ensures lender { self.new.records.ghost_name ≡ self.old.records.ghost_name }
         ensures rest { drop self.old.len self.new.records.now ≡ drop self.old.len self.old.records.now }
-        ensures does { Good K.Order.ranks self.old → Removed K.Order.ranks key.now self.old self.new }
+        ensures does { Good K.Ord.cmp self.old → Removed K.Ord.cmp key.now self.old self.new }
     {
         let len = self.len;
         self.len = remove(self.records, len, key);

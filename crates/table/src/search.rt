@@ -2,21 +2,19 @@
 ghost use Rattle.std.specs.Prelude.{◌≡◌, ◌≤◌, true, length, drop};
 ghost use Rattle.order.specs.Assoc.{rising, later};
 ghost use Rattle.table.specs.Places.{below, Sought};
-
-use order::keys::Order;
 use order::record::Record;
 use std::cmp::Ordering;
 
 // How many rows come before a key.
-fn place<K: Order, V>(rows: &[Record<K, V>], key: &K) -> usize
-    ensures at { rising K.Order.ranks rows.now ≡ true → result ≡ below K.Order.ranks key.now rows.now }
+fn place<K: Ord, V>(rows: &[Record<K, V>], key: &K) -> usize
+    ensures at { rising K.Ord.cmp rows.now ≡ true → result ≡ below K.Ord.cmp key.now rows.now }
     ensures within { result ≤ length rows.now }
 {
     let mut lo = 0;
     let mut hi = rows.len();
     while lo < hi {
         let mid = lo + (hi - lo) / 2;
-        match rows[mid].key.compare(key) {
+        match rows[mid].key.cmp(key) {
             Ordering::Less => lo = mid + 1,
             _ => hi = mid,
         }
@@ -25,12 +23,12 @@ fn place<K: Order, V>(rows: &[Record<K, V>], key: &K) -> usize
 }
 
 // The place of a key, or as an error the place where it would stand.
-pub(crate) fn seek<K: Order, V>(rows: &[Record<K, V>], key: &K) -> Result<usize, usize>
-    ensures { Sought K.Order.ranks key.now rows.now result }
+pub(crate) fn seek<K: Ord, V>(rows: &[Record<K, V>], key: &K) -> Result<usize, usize>
+    ensures { Sought K.Ord.cmp key.now rows.now result }
 {
     let at = place(rows, key);
     if at < rows.len() {
-        match rows[at].key.compare(key) {
+        match rows[at].key.cmp(key) {
             Ordering::Equal => Ok(at),
             _ => Err(at),
         }
@@ -40,8 +38,8 @@ pub(crate) fn seek<K: Order, V>(rows: &[Record<K, V>], key: &K) -> Result<usize,
 }
 
 // The place of the first row with a greater key.
-pub(crate) fn past<K: Order, V>(rows: &[Record<K, V>], key: &K) -> usize
-    ensures { rising K.Order.ranks rows.now ≡ true → later K.Order.ranks key.now rows.now ≡ drop result rows.now }
+pub(crate) fn past<K: Ord, V>(rows: &[Record<K, V>], key: &K) -> usize
+    ensures { rising K.Ord.cmp rows.now ≡ true → later K.Ord.cmp key.now rows.now ≡ drop result rows.now }
 {
     match seek(rows, key) {
         Ok(at) => at + 1,

@@ -3,7 +3,6 @@
 
 #[cfg(test)]
 mod tests {
-    use order::keys::Order;
     use order::record::Record;
     use simplex::simplex::Simplex;
     use std::cmp::Ordering;
@@ -21,7 +20,7 @@ mod tests {
 
     fn is(found: Option<Simplex>, s: &Simplex) -> bool {
         match found {
-            Some(t) => t.compare(s) == Ordering::Equal,
+            Some(t) => t.cmp(s) == Ordering::Equal,
             None => false,
         }
     }

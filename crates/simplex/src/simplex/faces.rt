@@ -1,10 +1,14 @@
-// The faces of a simplex, by number.
-ghost use Rattle.std.specs.Prelude.{◌≡◌, ◌<◌, [], ◌∷◌, Some};
+// The faces of a simplex, by number and one after another.
+ghost use Rattle.std.specs.Prelude.{◌≡◌, ◌<◌, [], ◌∷◌};
+ghost use Rattle.std.specs.List.{slice_get};
+ghost use Rattle.std.specs.Iterator.{YieldsFirstBy, item_count};
 ghost use Rattle.complex.specs.Simplex.{faces};
-ghost use Rattle.simplex.specs.Simplexes.{vertices, found, nth};
+ghost use Rattle.simplex.specs.Simplexes.{vertices, found};
+ghost use Rattle.simplex.specs.FacesLeft.{faces_left};
 
 use crate::shape::Shape;
 use crate::simplex::Simplex;
+use crate::simplex::makes::simplex;
 
 // No simplex has more faces, itself counted.
 pub const MOST_FACES: usize = 15;
@@ -12,7 +16,7 @@ pub const MOST_FACES: usize = 15;
 impl Simplex {
     // The face at place i, from 0, in the order of the definition; the last is the simplex itself.
     pub fn face(&self, i: usize) -> Option<Simplex>
-        ensures { found result ≡ nth (faces (vertices self.now)) i }
+        ensures { found result ≡ slice_get (faces (vertices self.now)) i }
     {
         match self.shape {
             Shape::Point(_) => { if i == 0 { Some(*self) } else { None } }
@@ -21,84 +25,87 @@ impl Simplex {
             Shape::Tetrahedron(a, b, c, d) => tetrahedron_face(a, b, c, d, i),
         }
     }
+
+    // All faces in that order.
+    pub fn faces(&self) -> Faces
+        ensures { faces_left result ≡ faces (vertices self.now) }
+    {
+        Faces {
+            simplex: *self,
+            next: 0,
+        }
+    }
 }
 
-fn point(a: u16) -> Option<Simplex>
-    ensures { found result ≡ Some (a ∷ []) }
-{
-    Some(Simplex {
-        shape: Shape::Point(a),
-    })
+// The faces of a simplex from a place on.
+#[derive(Clone, Copy, Debug)]
+pub struct Faces {
+    simplex: Simplex,
+    next: usize,
 }
 
-fn edge(a: u16, b: u16) -> Option<Simplex>
-    requires { a < b }
-    ensures { found result ≡ Some (a ∷ (b ∷ [])) }
-{
-    Some(Simplex {
-        shape: Shape::Edge(a, b),
-    })
-}
+impl Iterator for Faces {
+    type Item = Simplex;
 
-fn triangle(a: u16, b: u16, c: u16) -> Option<Simplex>
-    requires { (a < b) × (b < c) }
-    ensures { found result ≡ Some (a ∷ (b ∷ (c ∷ []))) }
-{
-    Some(Simplex {
-        shape: Shape::Triangle(a, b, c),
-    })
+    ghost next_gives = { YieldsFirstBy vertices faces_left };
+
+    ghost remaining = { item_count faces_left };
+
+    fn next(&mut self) -> Option<Simplex> {
+        let face = self.simplex.face(self.next)?;
+        self.next += 1;
+        Some(face)
+    }
 }
 
 fn edge_face(a: u16, b: u16, i: usize) -> Option<Simplex>
     requires { a < b }
-    ensures { found result ≡ nth (faces (a ∷ (b ∷ []))) i }
+    ensures { found result ≡ slice_get (faces (a ∷ (b ∷ []))) i }
 {
     match i {
-        0 => point(a),
-        1 => point(b),
-        2 => edge(a, b),
+        0 => Some(simplex(Shape::Point(a))),
+        1 => Some(simplex(Shape::Point(b))),
+        2 => Some(simplex(Shape::Edge(a, b))),
         _ => None,
     }
 }
 
 fn triangle_face(a: u16, b: u16, c: u16, i: usize) -> Option<Simplex>
     requires { (a < b) × (b < c) }
-    ensures { found result ≡ nth (faces (a ∷ (b ∷ (c ∷ [])))) i }
+    ensures { found result ≡ slice_get (faces (a ∷ (b ∷ (c ∷ [])))) i }
 {
     match i {
-        0 => point(a),
-        1 => point(b),
-        2 => point(c),
-        3 => edge(b, c),
-        4 => edge(a, b),
-        5 => edge(a, c),
-        6 => triangle(a, b, c),
+        0 => Some(simplex(Shape::Point(a))),
+        1 => Some(simplex(Shape::Point(b))),
+        2 => Some(simplex(Shape::Point(c))),
+        3 => Some(simplex(Shape::Edge(b, c))),
+        4 => Some(simplex(Shape::Edge(a, b))),
+        5 => Some(simplex(Shape::Edge(a, c))),
+        6 => Some(simplex(Shape::Triangle(a, b, c))),
         _ => None,
     }
 }
 
 fn tetrahedron_face(a: u16, b: u16, c: u16, d: u16, i: usize) -> Option<Simplex>
     requires { (a < b) × (b < c) × (c < d) }
-    ensures { found result ≡ nth (faces (a ∷ (b ∷ (c ∷ (d ∷ []))))) i }
+    ensures { found result ≡ slice_get (faces (a ∷ (b ∷ (c ∷ (d ∷ []))))) i }
 {
     match i {
-        0 => point(a),
-        1 => point(b),
-        2 => point(c),
-        3 => point(d),
-        4 => edge(c, d),
-        5 => edge(b, c),
-        6 => edge(b, d),
-        7 => triangle(b, c, d),
-        8 => edge(a, b),
-        9 => edge(a, c),
-        10 => edge(a, d),
-        11 => triangle(a, c, d),
-        12 => triangle(a, b, c),
-        13 => triangle(a, b, d),
-        14 => Some(Simplex {
-            shape: Shape::Tetrahedron(a, b, c, d),
-        }),
+        0 => Some(simplex(Shape::Point(a))),
+        1 => Some(simplex(Shape::Point(b))),
+        2 => Some(simplex(Shape::Point(c))),
+        3 => Some(simplex(Shape::Point(d))),
+        4 => Some(simplex(Shape::Edge(c, d))),
+        5 => Some(simplex(Shape::Edge(b, c))),
+        6 => Some(simplex(Shape::Edge(b, d))),
+        7 => Some(simplex(Shape::Triangle(b, c, d))),
+        8 => Some(simplex(Shape::Edge(a, b))),
+        9 => Some(simplex(Shape::Edge(a, c))),
+        10 => Some(simplex(Shape::Edge(a, d))),
+        11 => Some(simplex(Shape::Triangle(a, c, d))),
+        12 => Some(simplex(Shape::Triangle(a, b, c))),
+        13 => Some(simplex(Shape::Triangle(a, b, d))),
+        14 => Some(simplex(Shape::Tetrahedron(a, b, c, d))),
         _ => None,
     }
 }

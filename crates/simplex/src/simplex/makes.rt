@@ -2,34 +2,37 @@
 ghost use Rattle.std.specs.Prelude.{◌≡◌, true, [], ◌∷◌};
 ghost use Rattle.complex.specs.Simplex.{plus, less, rises};
 ghost use Rattle.simplex.specs.Shapes.{corners};
-ghost use Rattle.simplex.specs.Simplexes.{vertices, vertices_or_none, found, checked, fitted};
+ghost use Rattle.simplex.specs.Simplexes.{vertices, vertices_or_none, found, fitted, Makes};
 
 use crate::shape::Shape;
 use crate::simplex::Simplex;
+
+// Not one to four vertices in strictly rising order.
+#[derive(Clone, Copy, Debug, PartialEq, Eq)]
+pub struct NotRising;
+
+impl<'a> TryFrom<&'a [u16]> for Simplex {
+    type Error = NotRising;
+
+    ghost try_from_gives = { λ list r. Makes list.now r };
+
+    fn try_from(list: &'a [u16]) -> Result<Simplex, NotRising> {
+        match *list {
+            [a] => Ok(simplex(Shape::Point(a))),
+            [a, b] if a < b => Ok(simplex(Shape::Edge(a, b))),
+            [a, b, c] if a < b && b < c => Ok(simplex(Shape::Triangle(a, b, c))),
+            [a, b, c, d] if a < b && b < c && c < d => Ok(simplex(Shape::Tetrahedron(a, b, c, d))),
+            _ => Err(NotRising),
+        }
+    }
+}
 
 impl Simplex {
     // A vertex as a simplex.
     pub fn point(v: u16) -> Simplex
         ensures { vertices result ≡ v ∷ [] }
     {
-        Simplex {
-            shape: Shape::Point(v),
-        }
-    }
-
-    // The simplex of these vertices, if they are one to four in strictly rising order.
-    pub fn of(list: &[u16]) -> Option<Simplex>
-        ensures { found result ≡ checked list.now }
-    {
-        match list {
-            [a] => Some(Simplex {
-                shape: Shape::Point(*a),
-            }),
-            [a, b] => edge_of(*a, *b),
-            [a, b, c] => triangle_of(*a, *b, *c),
-            [a, b, c, d] => tetrahedron_of(*a, *b, *c, *d),
-            _ => None,
-        }
+        simplex(Shape::Point(v))
     }
 
     // This simplex with the vertex v added, unless that makes five.
@@ -49,9 +52,7 @@ impl Simplex {
             }
         }
     }
-}
 
-impl Simplex {
     // This simplex without the vertex v; None is the empty simplex.
     pub fn without(&self, v: u16) -> Option<Simplex>
         ensures { vertices_or_none result ≡ less v (vertices self.now) }
@@ -65,22 +66,26 @@ impl Simplex {
     }
 }
 
+// The simplex of a shape whose vertices rise.
+pub(crate) fn simplex(shape: Shape) -> Simplex
+    requires { rises (corners shape) ≡ true }
+    ensures { vertices result ≡ corners shape }
+{
+    Simplex { shape }
+}
+
+// For each size there is a function of its own: the simplex that it answers has another size, and a size can't be computed
+// from another in a type.
 fn edge_without(a: u16, b: u16, v: u16) -> Option<Simplex>
     requires { rises (a ∷ (b ∷ [])) ≡ true }
     ensures { vertices_or_none result ≡ less v (a ∷ (b ∷ [])) }
 {
     if v == a {
-        Some(Simplex {
-            shape: Shape::Point(b),
-        })
+        Some(simplex(Shape::Point(b)))
     } else if v == b {
-        Some(Simplex {
-            shape: Shape::Point(a),
-        })
+        Some(simplex(Shape::Point(a)))
     } else {
-        Some(Simplex {
-            shape: Shape::Edge(a, b),
-        })
+        Some(simplex(Shape::Edge(a, b)))
     }
 }
 
@@ -89,21 +94,13 @@ fn triangle_without(a: u16, b: u16, c: u16, v: u16) -> Option<Simplex>
     ensures { vertices_or_none result ≡ less v (a ∷ (b ∷ (c ∷ []))) }
 {
     if v == a {
-        Some(Simplex {
-            shape: Shape::Edge(b, c),
-        })
+        Some(simplex(Shape::Edge(b, c)))
     } else if v == b {
-        Some(Simplex {
-            shape: Shape::Edge(a, c),
-        })
+        Some(simplex(Shape::Edge(a, c)))
     } else if v == c {
-        Some(Simplex {
-            shape: Shape::Edge(a, b),
-        })
+        Some(simplex(Shape::Edge(a, b)))
     } else {
-        Some(Simplex {
-            shape: Shape::Triangle(a, b, c),
-        })
+        Some(simplex(Shape::Triangle(a, b, c)))
     }
 }
 
@@ -112,61 +109,15 @@ fn tetrahedron_without(a: u16, b: u16, c: u16, d: u16, v: u16) -> Option<Simplex
     ensures { vertices_or_none result ≡ less v (a ∷ (b ∷ (c ∷ (d ∷ [])))) }
 {
     if v == a {
-        Some(Simplex {
-            shape: Shape::Triangle(b, c, d),
-        })
+        Some(simplex(Shape::Triangle(b, c, d)))
     } else if v == b {
-        Some(Simplex {
-            shape: Shape::Triangle(a, c, d),
-        })
+        Some(simplex(Shape::Triangle(a, c, d)))
     } else if v == c {
-        Some(Simplex {
-            shape: Shape::Triangle(a, b, d),
-        })
+        Some(simplex(Shape::Triangle(a, b, d)))
     } else if v == d {
-        Some(Simplex {
-            shape: Shape::Triangle(a, b, c),
-        })
+        Some(simplex(Shape::Triangle(a, b, c)))
     } else {
-        Some(Simplex {
-            shape: Shape::Tetrahedron(a, b, c, d),
-        })
-    }
-}
-
-fn edge_of(a: u16, b: u16) -> Option<Simplex>
-    ensures { found result ≡ checked (a ∷ (b ∷ [])) }
-{
-    if a < b {
-        Some(Simplex {
-            shape: Shape::Edge(a, b),
-        })
-    } else {
-        None
-    }
-}
-
-fn triangle_of(a: u16, b: u16, c: u16) -> Option<Simplex>
-    ensures { found result ≡ checked (a ∷ (b ∷ (c ∷ []))) }
-{
-    if a < b && b < c {
-        Some(Simplex {
-            shape: Shape::Triangle(a, b, c),
-        })
-    } else {
-        None
-    }
-}
-
-fn tetrahedron_of(a: u16, b: u16, c: u16, d: u16) -> Option<Simplex>
-    ensures { found result ≡ checked (a ∷ (b ∷ (c ∷ (d ∷ [])))) }
-{
-    if a < b && b < c && c < d {
-        Some(Simplex {
-            shape: Shape::Tetrahedron(a, b, c, d),
-        })
-    } else {
-        None
+        Some(simplex(Shape::Tetrahedron(a, b, c, d)))
     }
 }
 
@@ -174,17 +125,11 @@ fn point_with(a: u16, v: u16) -> Option<Simplex>
     ensures { found result ≡ fitted (plus v (a ∷ [])) }
 {
     if v < a {
-        Some(Simplex {
-            shape: Shape::Edge(v, a),
-        })
+        Some(simplex(Shape::Edge(v, a)))
     } else if v == a {
-        Some(Simplex {
-            shape: Shape::Point(a),
-        })
+        Some(simplex(Shape::Point(a)))
     } else {
-        Some(Simplex {
-            shape: Shape::Edge(a, v),
-        })
+        Some(simplex(Shape::Edge(a, v)))
     }
 }
 
@@ -193,21 +138,13 @@ fn edge_with(a: u16, b: u16, v: u16) -> Option<Simplex>
     ensures { found result ≡ fitted (plus v (a ∷ (b ∷ []))) }
 {
     if v < a {
-        Some(Simplex {
-            shape: Shape::Triangle(v, a, b),
-        })
+        Some(simplex(Shape::Triangle(v, a, b)))
     } else if v == a || v == b {
-        Some(Simplex {
-            shape: Shape::Edge(a, b),
-        })
+        Some(simplex(Shape::Edge(a, b)))
     } else if v < b {
-        Some(Simplex {
-            shape: Shape::Triangle(a, v, b),
-        })
+        Some(simplex(Shape::Triangle(a, v, b)))
     } else {
-        Some(Simplex {
-            shape: Shape::Triangle(a, b, v),
-        })
+        Some(simplex(Shape::Triangle(a, b, v)))
     }
 }
 
@@ -216,24 +153,14 @@ fn triangle_with(a: u16, b: u16, c: u16, v: u16) -> Option<Simplex>
     ensures { found result ≡ fitted (plus v (a ∷ (b ∷ (c ∷ [])))) }
 {
     if v < a {
-        Some(Simplex {
-            shape: Shape::Tetrahedron(v, a, b, c),
-        })
+        Some(simplex(Shape::Tetrahedron(v, a, b, c)))
     } else if v == a || v == b || v == c {
-        Some(Simplex {
-            shape: Shape::Triangle(a, b, c),
-        })
+        Some(simplex(Shape::Triangle(a, b, c)))
     } else if v < b {
-        Some(Simplex {
-            shape: Shape::Tetrahedron(a, v, b, c),
-        })
+        Some(simplex(Shape::Tetrahedron(a, v, b, c)))
     } else if v < c {
-        Some(Simplex {
-            shape: Shape::Tetrahedron(a, b, v, c),
-        })
+        Some(simplex(Shape::Tetrahedron(a, b, v, c)))
     } else {
-        Some(Simplex {
-            shape: Shape::Tetrahedron(a, b, c, v),
-        })
+        Some(simplex(Shape::Tetrahedron(a, b, c, v)))
     }
 }

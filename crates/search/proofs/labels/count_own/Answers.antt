@@ -10,14 +10,14 @@ pub overflow_add-count : goal.overflow_add-count
 overflow_add-count g c =
     let rows = c.args.rows.now in
     let i = c.loop-row.row-index in
-    omega (arith, c.loop-row.invariant, c.loop-row-test.true, count_by-le-length (is_own g.N.Order.ranks) (take i rows), length-take i rows, c.well_formed.0)
+    omega (arith, c.loop-row.invariant, c.loop-row-test.true, count_by-le-length (is_own g.N.Ord.cmp) (take i rows), length-take i rows, c.well_formed.0)
 
 pub loop-row-preserved : goal.loop-row-preserved
 loop-row-preserved g c =
     let l = c.loop-row in
     let x = c.row-item.result in
     let rows = c.args.rows.now in
-    let p = is_own g.N.Order.ranks in
+    let p = is_own g.N.Ord.cmp in
     let same = ap p (sym c.row-item.is) in
     elim c.if-is_own.branch [
       | then-is_own w ↦ w.count-is ∙ ap (λ n. n + 1) l.invariant ∙ sym (count_by_more_yes p rows l.row-index x c.loop-row-test.true (same ∙ sym w.if-is_own.ensures))
@@ -25,4 +25,4 @@ loop-row-preserved g c =
     ]
 
 pub returns : goal.returns
-returns g c = c.loop-row.invariant ∙ ap (class_count g.N.Order.ranks) (take_all c.loop-row.row-index c.args.rows.now c.loop-row-test.false)
+returns g c = c.loop-row.invariant ∙ ap (class_count g.N.Ord.cmp) (take_all c.loop-row.row-index c.args.rows.now c.loop-row-test.false)

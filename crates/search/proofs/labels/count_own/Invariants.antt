@@ -4,4 +4,4 @@ use Rattle.search.specs.Classes.{class_count}
 use Rattle.search.proofs.labels.count_own.Given as goal
 
 abbrev pub invariant-loop-row : goal.invariant-loop-row
-invariant-loop-row g l = l.count ≡ class_count g.N.Order.ranks (take l.row-index l.rows)
+invariant-loop-row g l = l.count ≡ class_count g.N.Ord.cmp (take l.row-index l.rows)

@@ -1,7 +1,7 @@
 -- Each turn joins the node with the next of the earlier ones.
 use Rattle.std.proofs.Common.{get_or, take, Some, None, sym, ap, ◌∙◌, arith}
 use Rattle.std.proofs.lemmas.List.{get_or_default}
-use Rattle.order.specs.Assoc.{Lawful}
+use Rattle.std.specs.Cmp.{IsTotalOrder}
 use Rattle.search.specs.Classes.{joined_on}
 use Rattle.search.specs.Nodes.{keys}
 use Rattle.search.proofs.Uniting.{next_told, joins_end, joins_on}
@@ -9,9 +9,9 @@ use Rattle.search.proofs.search.join.Goals as goal
 
 pub loop-place-preserved : goal.loop-place-preserved
 loop-place-preserved g c =
-    let m = g.met.J.Node.Order in
-    let rank = g.J.Node.Order.ranks in
-    let ok : Lawful rank = record { flip = m.flip; chain = m.chain; alike = m.alike } in
+    let m = g.met.J.Node.Ord in
+    let rank = g.J.Node.Ord.cmp in
+    let ok : IsTotalOrder rank = m.total in
     let old = c.args.rows.now in
     let rows = c.loop-place.rows in
     let at = c.args.at in
@@ -26,9 +26,9 @@ loop-place-preserved g c =
 
 pub returns : goal.returns
 returns g c e =
-    let m = g.met.J.Node.Order in
-    let rank = g.J.Node.Order.ranks in
-    let ok : Lawful rank = record { flip = m.flip; chain = m.chain; alike = m.alike } in
+    let m = g.met.J.Node.Ord in
+    let rank = g.J.Node.Ord.cmp in
+    let ok : IsTotalOrder rank = m.total in
     let old = c.args.rows.now in
     let rows = c.loop-place.rows in
     let at = c.args.at in

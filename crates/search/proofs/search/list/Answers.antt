@@ -15,20 +15,20 @@ loop-node-init g c = (ap (λ rows. rows ++ own (g.J.Joining.nodes c.args.graph.n
 
 pub loop-node-smaller : goal.loop-node-smaller
 loop-node-smaller g c =
-    let m = g.met.J.Node.Order in
-    let step = node_step g.J.Node.Order.ranks (record { flip = m.flip; chain = m.chain; alike = m.alike }) (g.J.Joining.nodes c.args.graph.now) c.loop-node.at c.in-Some.node c.next.ensures.sorted (c.in-Some.ensures.next c.loop-node.invariant.1) in
+    let m = g.met.J.Node.Ord in
+    let step = node_step g.J.Node.Ord.cmp (m.total) (g.J.Joining.nodes c.args.graph.now) c.loop-node.at c.in-Some.node c.next.ensures.sorted (c.in-Some.ensures.next c.loop-node.invariant.1) in
     omega (arith, ap length step.first)
 
 pub loop-node-preserved : goal.loop-node-preserved
 loop-node-preserved g c =
-    let m = g.met.J.Node.Order in
-    let rank = g.J.Node.Order.ranks in
+    let m = g.met.J.Node.Ord in
+    let rank = g.J.Node.Ord.cmp in
     let nodes = g.J.Joining.nodes c.args.graph.now in
     let t = c.loop-node.table in
     let u = c.put.new.self in
     let x = c.in-Some.node in
     let l = c.loop-node.invariant in
-    let step = node_step rank (record { flip = m.flip; chain = m.chain; alike = m.alike }) nodes c.loop-node.at x c.next.ensures.sorted (c.in-Some.ensures.next l.1) in
+    let step = node_step rank (m.total) nodes c.loop-node.at x c.next.ensures.sorted (c.in-Some.ensures.next l.1) in
     let after = left rank (Some x) (own nodes) in
     let all : held t ++ itself x ∷ after ≡ own nodes = sym (ap (λ rows. held t ++ rows) step.first) ∙ l.0 in
     let stored = c.put.ensures.does l.2 in

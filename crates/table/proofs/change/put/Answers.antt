@@ -11,7 +11,7 @@ bounds-rows-at g c = omega (arith, c.in-Ok.ensures.0, c.front.ensures.within)
 
 pub returns-in-Ok : goal.returns-in-Ok
 returns-in-Ok g c =
-    let rank = g.K.Order.ranks in
+    let rank = g.K.Ord.cmp in
     let k = c.args.key in
     let v = c.args.value in
     let at = c.in-Ok.at in
@@ -26,7 +26,7 @@ returns-in-Ok g c =
 
 pub returns-in-Err : goal.returns-in-Err
 returns-in-Err g c =
-    let rank = g.K.Order.ranks in
+    let rank = g.K.Ord.cmp in
     let k = c.args.key in
     let at = c.in-Err.at in
     let rows = take c.args.len c.args.rows.now in

@@ -10,7 +10,7 @@ close_gap-requires g c = record { within = c.in-Ok.ensures.0; room = c.front-use
 
 pub returns-in-Ok : goal.returns-in-Ok
 returns-in-Ok g c =
-    let rank = g.K.Order.ranks in
+    let rank = g.K.Ord.cmp in
     let k = c.args.key.now in
     let at = c.in-Ok.at in
     let old = c.args.rows.now in
@@ -26,7 +26,7 @@ returns-in-Ok g c =
 
 pub returns-in-Err : goal.returns-in-Err
 returns-in-Err g c =
-    let rank = g.K.Order.ranks in
+    let rank = g.K.Ord.cmp in
     let k = c.args.key.now in
     let rows = take c.args.len c.args.rows.now in
     let at = c.in-Err.field-0 in

@@ -6,7 +6,7 @@ use Rattle.table.proofs.rows.Table.after.Goals as goal
 
 pub returns-in_err-get : goal.returns-in_err-get
 returns-in_err-get g c good =
-    let rank = g.K.Order.ranks in
+    let rank = g.K.Ord.cmp in
     let k = c.args.key.now in
     let used = c.front-rows.result.now in
     let is = c.front-rows.ensures.is in
@@ -16,7 +16,7 @@ returns-in_err-get g c good =
 
 pub returns : goal.returns
 returns g c good =
-    let rank = g.K.Order.ranks in
+    let rank = g.K.Ord.cmp in
     let k = c.args.key.now in
     let used = c.front-rows.result.now in
     let is = c.front-rows.ensures.is in

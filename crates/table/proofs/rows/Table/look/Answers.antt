@@ -7,7 +7,7 @@ use Rattle.table.proofs.rows.Table.look.Goals as goal
 
 pub returns-in-Ok : goal.returns-in-Ok
 returns-in-Ok g c good =
-    let rank = g.K.Order.ranks in
+    let rank = g.K.Ord.cmp in
     let k = c.args.key.now in
     let at = c.in-Ok.at in
     let d = c.index-rows-at.result in

@@ -10,8 +10,8 @@ use Rattle.table.proofs.rows.Table.put.Goals as goal
 
 pub returns-in-Some : goal.returns-in-Some
 returns-in-Some g c =
-    let rank = g.K.Order.ranks in
-    let m = g.met.K.Order in
+    let rank = g.K.Ord.cmp in
+    let m = g.met.K.Ord in
     let n = c.in-Some.n in
     let after = c.put.new.rows in
     let before = c.args.self.now in
@@ -27,7 +27,7 @@ returns-in-Some g c =
           record {
             fits = sym p.0;
             holds = p.2;
-            good = (within, ap (rising rank) p.2 ∙ put_keeps_rising rank (record { flip = m.flip; chain = m.chain; alike = m.alike }) c.args.key (Some c.args.value) (held before) good.1);
+            good = (within, ap (rising rank) p.2 ∙ put_keeps_rising rank (m.total) c.args.key (Some c.args.value) (held before) good.1);
             long = sym (length-take-le n after within);
             untouched = λ f. absurd (true≢false f);
           };

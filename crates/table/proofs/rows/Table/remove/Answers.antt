@@ -8,8 +8,8 @@ use Rattle.table.proofs.rows.Table.remove.Goals as goal
 
 pub returns : goal.returns
 returns g c =
-    let rank = g.K.Order.ranks in
-    let m = g.met.K.Order in
+    let rank = g.K.Ord.cmp in
+    let m = g.met.K.Ord in
     let n = c.remove-self.result in
     let after = c.remove-self.new.rows in
     let kept = c.remove-self.auto.rows in
@@ -23,7 +23,7 @@ returns g c =
           let within : n ≤ length after = omega (arith, p.0, kept) in
           record {
             holds = p.1;
-            good = (within, ap (rising rank) p.1 ∙ put_keeps_rising rank (record { flip = m.flip; chain = m.chain; alike = m.alike }) c.args.key.now None (held c.args.self.now) good.1);
+            good = (within, ap (rising rank) p.1 ∙ put_keeps_rising rank (m.total) c.args.key.now None (held c.args.self.now) good.1);
             long = sym (length-take-le n after within);
           };
     }
