@@ -9,6 +9,7 @@ use Rattle.complex.specs.Model.{Model, mask, write, Sorted}
 use Rattle.complex.specs.Simplex.{colex, rises, proper, below}
 use Rattle.complex.proofs.Order.{colex_lawful, colex_exact}
 use Rattle.store.specs.Contents.{fits}
+use Rattle.store.specs.Walk.{keys}
 
 -- what is found is the first of those that are later
 split : (L : Model) (s : List ℕ) → Some s ≡ first L → (r : Record (List ℕ) ℕ) × (rs : Model) × (L ≡ r ∷ rs) × (r.key ≡ s)
@@ -29,6 +30,14 @@ module _ (M : Model) (sorted : Sorted M) (q s : List ℕ) (found : Some s ≡ ne
       ∙ ap (λ m. w r.key m + total w p.1) (sym value)
       ∙ ap (λ L. w r.key (mask M r.key) + total w L) (sym (later_step colex colex_lawful M q r p.1 sorted p.2))
       ∙ ap (λ t. w t (mask M t) + total w (later colex t M)) p.3
+
+  -- what is left begins with what is found
+  pub walk_on : keys (later colex q M) ≡ s ∷ keys (later colex s M)
+  walk_on =
+      let p = split (later colex q M) s found in
+      ap keys p.2
+      ∙ ap (λ L. p.0.key ∷ keys L) (sym (later_step colex colex_lawful M q p.0 p.1 sorted p.2))
+      ∙ ap (λ t. t ∷ keys (later colex t M)) p.3
 
   pub walk_shorter : length (later colex s M) < length (later colex q M)
   walk_shorter =

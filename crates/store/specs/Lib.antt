@@ -1,2 +1,3 @@
 pub mod Contents
 pub mod Puts
+pub mod Walk

@@ -3,3 +3,4 @@
 
 pub mod meaning;
 pub mod refusal;
+pub mod walk;
