@@ -1,17 +1,14 @@
 -- What a look-up, a change and the later records come to at a key's place.
-use Rattle.std.proofs.Common.{◌≡◌, ℕ, zero, suc, ◌-◌, ◌<◌, ◌≤◌, true, false, List, [], ◌∷◌, ◌++◌, length, get_or, take, drop, is_some, Some, None, Option, Ordering, Less, Equal, Greater, sym, refl, ap, ◌∙◌, subst, ⊎_elim, arith}
-use Rattle.std.specs.Ordering.{is_lt}
+use Rattle.std.proofs.Common.{◌≡◌, ℕ, zero, suc, ◌<◌, ◌≤◌, true, false, List, [], ◌∷◌, ◌++◌, length, get_or, take, drop, is_some, Some, None, Option, Ok, Err, Result, Ordering, Less, Equal, Greater, sym, refl, ap, ◌∙◌, ⊎_elim, arith}
+use Rattle.std.specs.List.Sorted.{IsNonDecreasingBy, IsBinarySearchResult, IsSearchInRange}
+use Rattle.std.specs.Ordering.{is_lt, ordering_index}
 use Rattle.std.proofs.lemmas.List.{get_or_default}
-use Rattle.std.proofs.lemmas.Bool.{and_parts, cases_eq}
+use Rattle.std.proofs.lemmas.Bool.{and_parts, cases_eq, cases_lt}
 use Rattle.order.specs.declared.record.Record.{Record}
 use Rattle.std.specs.Cmp.{IsTotalOrder}
 use Rattle.order.specs.Assoc.{by, before, rising, lookup, bind, put, later}
 use Rattle.order.proofs.Ranks.{is_less, alike_right}
-use Rattle.table.specs.Places.{below}
-
--- the record before n is less than k
-abbrev pub Left : {K V : Type 0} → (K → K → Ordering) → K → List (Record K V) → ℕ → Type 0
-Left {K} {V} c k rows n = (d : Record K V) → 0 < n → c (get_or rows (n - 1) d).key k ≡ Less
+use Rattle.table.specs.Places.{below, Sought}
 
 -- the record at n is not
 abbrev pub Right : {K V : Type 0} → (K → K → Ordering) → K → List (Record K V) → ℕ → Type 0
@@ -47,17 +44,6 @@ module _ {K V : Type 0} (c : K → K → Ordering) where
       ∙ sym (ap (λ a. by a (suc (below c k rs)) zero zero) (all zero r (omega arith)))
 
   module _ (ok : IsTotalOrder c) where
-    left_all : (k : K) (rows : List (Record K V)) (n : ℕ) → n ≤ length rows → rising c rows ≡ true → Left c k rows n → (i : ℕ) (d : Record K V) → i < n → c (get_or rows i d).key k ≡ Less
-    left_all k rows zero le u left i d h = absurd (omega arith)
-    left_all k rows (suc n) le u left i d h =
-        let e : suc n - 1 ≡ n = omega arith in
-        let last : c (get_or rows n d).key k ≡ Less = subst (λ m. c (get_or rows m d).key k ≡ Less) e (left d (omega arith)) in
-        ⊎_elim (λ q. subst (λ m. c (get_or rows m d).key k ≡ Less) (sym q) last) (λ ne. ok.trans _ _ k (rising_at rows i n d u (omega arith) (omega arith)) last) (cases_eq i n)
-
-    -- a place with a lesser record before it and none at it has all the lesser records before it
-    pub place_is_below : (k : K) (rows : List (Record K V)) (n : ℕ) → n ≤ length rows → rising c rows ≡ true → Left c k rows n → Right c k rows n → n ≡ below c k rows
-    place_is_below k rows n le u left right = below_is k rows n le (left_all k rows n le u left) right
-
     -- a record with the key stands at the key's place
     pub equal_is_below : (k : K) (rows : List (Record K V)) (n : ℕ) (d : Record K V) → n < length rows → rising c rows ≡ true → c (get_or rows n d).key k ≡ Equal → n ≡ below c k rows
     equal_is_below k rows n d h u e = below_is k rows n (omega arith) lesser (λ x l. ap is_lt (ap (λ r. c r.key k) (get_or_default rows n x d h) ∙ e))
@@ -95,6 +81,14 @@ module _ {K V : Type 0} (c : K → K → Ordering) (k : K) where
 
     pub missing_end : length rows ≤ n → is_some (lookup c k rows) ≡ false
     missing_end h = missing_past rows (omega arith)
+
+    -- nothing is there where the record at the place is greater, or there is none
+    pub missing : Record K V → n ≤ length rows → ((d : Record K V) → n < length rows → c (get_or rows n d).key k ≡ Greater) → is_some (lookup c k rows) ≡ false
+    missing d le greater =
+        ⊎_elim
+        (λ l. missing_other d l (λ e. let z : ◌≡◌ {A = Ordering} Equal Greater = sym e ∙ greater d l in cc))
+        (λ l. missing_end (omega arith))
+        (cases_lt n (length rows))
 
   pub lookup_found : (rows : List (Record K V)) (d : Record K V) → is_some (lookup c k rows) ≡ true → lookup c k rows ≡ Some (get_or rows (below c k rows) d).value
   lookup_found [] d h = cc
@@ -145,3 +139,31 @@ module _ {K V : Type 0} (c : K → K → Ordering) (k : K) where
       go more Less h = more h
       go more Equal h = cc
       go more Greater h = refl
+
+index_small : (o : Ordering) → ordering_index o ≤ 2
+index_small Less = omega arith
+index_small Equal = omega arith
+index_small Greater = omega arith
+
+module _ {K V : Type 0} (c : K → K → Ordering) (ok : IsTotalOrder c) (k : K) where
+  -- how the keys stand to k rises
+  nondecreasing : (rows : List (Record K V)) → rising c rows ≡ true → IsNonDecreasingBy (λ r. ordering_index (c r.key k)) rows
+  nondecreasing rows u i j d le h = ⊎_elim (λ e. omega (arith, ap (λ m. ordering_index (c (get_or rows m d).key k)) e)) (λ ne. go (c (get_or rows j d).key k) refl (rising_at c rows i j d u (omega arith) h)) (cases_eq i j)
+    where
+      go : (a : Ordering) → c (get_or rows j d).key k ≡ a → c (get_or rows i d).key (get_or rows j d).key ≡ Less → ordering_index (c (get_or rows i d).key k) ≤ ordering_index (c (get_or rows j d).key k)
+      go Less e l = omega (arith, ap ordering_index (ok.trans _ _ k l e))
+      go Equal e l = omega (arith, ap ordering_index (sym (alike_right c ok _ k _ e) ∙ l))
+      go Greater e l = omega (arith, ap ordering_index e, index_small (c (get_or rows i d).key k))
+
+  pub sought : (rows : List (Record K V)) (r : Result ℕ ℕ) → IsSearchInRange r (length rows) → IsBinarySearchResult (λ x. c x.key k) rows r → Sought c k rows r
+  sought [] (Ok at) b s = absurd (omega arith)
+  sought (d ∷ rs) (Ok at) b s = (b, λ up. let e = equal_is_below c ok k (d ∷ rs) at d b up (s d) in (e, found_equal c k (d ∷ rs) at e d b (s d)))
+  sought [] (Err at) b s = (b, λ up. (omega arith, refl))
+  sought (d ∷ rs) (Err at) b s = (
+    b,
+    λ up.
+        let rows : List (Record K V) = d ∷ rs in
+        let p = s (nondecreasing rows up) in
+        let e : at ≡ below c k rows = below_is c k rows at b (λ i x l. p.0 i x (omega arith) l) (λ x l. ap is_lt (p.1 at x (omega arith) l)) in
+        (e, missing c k rows at e d b (λ x l. p.1 at x (omega arith) l)),
+  )

@@ -7,9 +7,5 @@ pub fn front<T>(rows: &[T], len: usize) -> &[T]
     ensures short { length result.now ≤ len }
     ensures within { length result.now ≤ length rows.now }
 {
-    if len < rows.len() {
-        &rows[0..len]
-    } else {
-        rows
-    }
+    &rows[..len.min(rows.len())]
 }

@@ -1,7 +1,6 @@
 // An ordered table over records that the caller lends, for every kind of key with an order.
 #![tactic(auto)]
 
-mod change;
 pub mod front;
 pub mod rows;
 mod search;

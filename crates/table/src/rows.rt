@@ -1,25 +1,30 @@
 // The table, and its questions and changes.
-ghost use Rattle.std.specs.Prelude.{◌≡◌, ◌+◌, [], drop};
-ghost use Rattle.order.specs.Assoc.{lookup, first, next};
-ghost use Rattle.table.specs.Held.{held, room, Good, Stored, Removed};
+ghost use Rattle.std.specs.Prelude.{◌≡◌, ◌+◌, ◌≤◌, true, [], length, take, drop};
+ghost use Rattle.order.specs.Assoc.{rising, lookup, first, next};
 
-use crate::change::{put, remove};
-use crate::front::front;
 use crate::search::{past, seek};
+use crate::shift::{close_gap, insert_at};
 use order::record::Record;
 
 // Records that the caller lends; the first `len` are in use, in rising order of their keys.
 #[derive(Drop)]
-pub struct Table<'a, K, V> {
-    pub records: &'a mut [Record<K, V>],
-    pub len: usize,
+pub struct Table<'a, K: Ord, V> {
+    records: &'a mut [Record<K, V>],
+    len: usize,
+    ghost within: { len ≤ length records.now },
+    ghost sorted: { rising K.Ord.cmp (take len records.now) ≡ true },
 }
 
+// A key is new and no record is free.
+#[derive(Clone, Copy, Debug, PartialEq, Eq)]
+pub struct TableFull;
+
 impl<'a, K: Ord + Copy, V: Copy> Table<'a, K, V> {
+    ghost use Rattle.table.specs.Held.{held, room, Stored, Removed};
+
     // An empty table; nothing is written.
     pub fn open(records: &'a mut [Record<K, V>]) -> Table<'a, K, V>
         ensures held { held result ≡ [] }
-        ensures good { Good K.Ord.cmp result }
         ensures records { result.records.now ≡ records.old }
         ensures len { result.len ≡ 0 }
         ensures lender { result.records.ghost_name ≡ records.entry.ghost_name }
@@ -27,11 +32,25 @@ impl<'a, K: Ord + Copy, V: Copy> Table<'a, K, V> {
         Table { records, len: 0 }
     }
 
+    // The records in use.
+    fn rows(&self) -> &[Record<K, V>]
+        ensures { result.now ≡ held self.now }
+    {
+        &self.records[..self.len]
+    }
+
+    // How many records are in use.
+    pub fn len(&self) -> usize
+        ensures { result ≡ length (held self.now) }
+    {
+        self.rows().len()
+    }
+
     // The value at a key.
     pub fn look(&self, key: &K) -> Option<V>
-        ensures { Good K.Ord.cmp self.now → result ≡ lookup K.Ord.cmp key.now (held self.now) }
+        ensures { result ≡ lookup K.Ord.cmp key.now (held self.now) }
     {
-        let rows = front(self.records, self.len);
+        let rows = self.rows();
         match seek(rows, key) {
             Ok(at) => Some(rows[at].value),
             Err(_) => None,
@@ -42,35 +61,36 @@ impl<'a, K: Ord + Copy, V: Copy> Table<'a, K, V> {
     pub fn first(&self) -> Option<K>
         ensures { result ≡ first (held self.now) }
     {
-        match front(self.records, self.len) {
-            [record, ..] => Some(record.key),
-            [] => None,
-        }
+        Some(self.rows().first()?.key)
     }
 
     // The least key greater than a key.
     pub fn after(&self, key: &K) -> Option<K>
-        ensures { Good K.Ord.cmp self.now → result ≡ next K.Ord.cmp key.now (held self.now) }
+        ensures { result ≡ next K.Ord.cmp key.now (held self.now) }
     {
-        let rows = front(self.records, self.len);
+        let rows = self.rows();
         Some(rows.get(past(rows, key))?.key)
     }
 
-    // Gives a key a value; false where the key is new and no record is free.
-    pub fn put(&mut self, key: K, value: V) -> bool
+    // Gives a key a value, unless the key is new and no record is free.
+    pub fn put(&mut self, key: K, value: V) -> Result<(), TableFull>
         ensures room { room self.new ≡ room self.old }
         ensures lender { self.new.records.ghost_name ≡ self.old.records.ghost_name }
         ensures rest { drop (self.old.len + 1) self.new.records.now ≡ drop (self.old.len + 1) self.old.records.now }
         ensures unused { drop self.new.len self.new.records.now ≡ drop self.new.len self.old.records.now }
-        ensures does { Good K.Ord.cmp self.old → Stored K.Ord.cmp key value self.old self.new result }
+        ensures does { Stored K.Ord.cmp key value self.old self.new result }
     {
-        let len = self.len;
-        match put(self.records, len, key, value) {
-            Some(n) => {
-                self.len = n;
-                true
+        match seek(self.rows(), &key) {
+            Ok(at) => {
+                self.records[at] = Record { key, value };
+                Ok(())
             }
-            None => false,
+            Err(at) if self.len < self.records.len() => {
+                insert_at(self.records, at, self.len, Record { key, value });
+                self.len += 1;
+                Ok(())
+            }
+            Err(_) => Err(TableFull),
         }
     }
 
@@ -79,9 +99,11 @@ impl<'a, K: Ord + Copy, V: Copy> Table<'a, K, V> {
         ensures room { room self.new ≡ room self.old }
         ensures lender { self.new.records.ghost_name ≡ self.old.records.ghost_name }
         ensures rest { drop self.old.len self.new.records.now ≡ drop self.old.len self.old.records.now }
-        ensures does { Good K.Ord.cmp self.old → Removed K.Ord.cmp key.now self.old self.new }
+        ensures does { Removed K.Ord.cmp key.now self.old self.new }
     {
-        let len = self.len;
-        self.len = remove(self.records, len, key);
+        if let Ok(at) = seek(self.rows(), key) {
+            close_gap(self.records, at, self.len);
+            self.len -= 1;
+        }
     }
 }

@@ -9,11 +9,7 @@ pub(crate) fn insert_at<T: Copy>(rows: &mut [T], at: usize, len: usize, x: T)
     ensures front { take (len + 1) rows.new ≡ insert (take len rows.old) at x }
     ensures rest { drop (len + 1) rows.new ≡ drop (len + 1) rows.old }
 {
-    let mut i = len;
-    while i > at {
-        rows[i] = rows[i - 1];
-        i -= 1;
-    }
+    rows.copy_within(at..len, at + 1);
     rows[at] = x;
 }
 
@@ -24,9 +20,5 @@ pub(crate) fn close_gap<T: Copy>(rows: &mut [T], at: usize, len: usize)
     ensures front { take (len - 1) rows.new ≡ remove (take len rows.old) at }
     ensures rest { drop len rows.new ≡ drop len rows.old }
 {
-    let mut i = at + 1;
-    while i < len {
-        rows[i - 1] = rows[i];
-        i += 1;
-    }
+    rows.copy_within(at + 1..len, at);
 }

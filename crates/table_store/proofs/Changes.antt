@@ -1,6 +1,9 @@
 -- A change at one key of its table leaves a table store a table store.
-use Rattle.std.proofs.Common.{◌≡◌, ℕ, ◌+◌, ◌<◌, ◌≤◌, Bool, true, cond, ◌||◌, ltb, [], length, is_some, Some, None, Option, unwrap_or, sym, refl, ap, ◌∙◌, arith}
+use Rattle.std.proofs.Common.{◌≡◌, ℕ, ◌+◌, ◌<◌, ◌≤◌, true, cond, ◌||◌, ltb, [], length, is_ok, is_some, Some, None, Option, unwrap_or, sym, refl, ap, ◌∙◌, arith, Result}
 use Rattle.std.proofs.lemmas.Bool.{lt-ltb}
+use Rattle.simplex.specs.contracts.simplex.ranking.SimplexOrd.TheImpl as ord
+use Rattle.simplex.specs.contracts.simplex.SimplexPartialEq.TheImpl as eq
+use Rattle.simplex.specs.contracts.simplex.ranking.SimplexPartialOrd.TheImpl as partial
 use Rattle.order.specs.Assoc.{lookup, bind, put, weigh}
 use Rattle.order.proofs.Maps.{length_is_total, total_put}
 use Rattle.complex.specs.Model.{mask, present, write}
@@ -9,7 +12,8 @@ use Rattle.complex.proofs.Order.{colex_lawful, colex_exact}
 use Rattle.simplex.specs.declared.simplex.Simplex.{Simplex}
 use Rattle.simplex.specs.Simplexes.{vertices, by_vertices}
 use Rattle.table.specs.declared.rows.Table.{Table}
-use Rattle.table.specs.Held.{held, room, Good, Stored, Removed}
+use Rattle.table.specs.declared.rows.TableFull.{TableFull}
+use Rattle.table.specs.Held.{held, room, Stored, Removed}
 use Rattle.store.specs.Contents.{Contents, fits, holding}
 use Rattle.table_store.specs.declared.records.TableStore.{TableStore}
 use Rattle.table_store.specs.Entries.{entries, length_entries}
@@ -18,18 +22,20 @@ use Rattle.table_store.specs.Stores.{contents, contents_length, contents_stored}
 use Rattle.table_store.proofs.Entries.{lookup_entries, put_entries}
 use Rattle.table_store.proofs.Fits.{put_keeps_fits}
 
+-- a table of simplexes and masks
+abbrev SimplexTable : Type 0
+SimplexTable = Table Simplex ℕ ord.ghosts eq.ghosts partial.ghosts
+
 -- the facts of a table store, of another table under the same limit
-pub record Kept (t : TableStore) (new : Table Simplex ℕ) : Type 0 where
-  pub good : Good by_vertices new
+pub record Kept (t : TableStore) (new : SimplexTable) : Type 0 where
   pub used : new.len ≤ t.limit
   pub lent : t.limit ≤ room new
   pub few : t.limit ≤ most_records
   pub fit : fits vertex_range (entries (held new)) ≡ true
 
 -- new is the store's table with the value o at k
-pub record Changed (t : TableStore) (k : Simplex) (o : Option ℕ) (new : Table Simplex ℕ) : Type 0 where
+pub record Changed (t : TableStore) (k : Simplex) (o : Option ℕ) (new : SimplexTable) : Type 0 where
   pub holds : held new ≡ put by_vertices k o (held t.table)
-  pub good : Good by_vertices new
   pub long : new.len ≡ length (held new)
   pub lent : room new ≡ room t.table
 
@@ -42,7 +48,7 @@ there_weighs : {K : Type 0} (k : K) (o : Option ℕ) → weigh (λ _ _. 1) k o �
 there_weighs k None = refl
 there_weighs k (Some m) = refl
 
-module _ (t : TableStore) (k : Simplex) (new : Table Simplex ℕ) where
+module _ (t : TableStore) (k : Simplex) (new : SimplexTable) where
   abbrev found : Option ℕ
   found = lookup colex (vertices k) (contents t).model
 
@@ -60,7 +66,6 @@ module _ (t : TableStore) (k : Simplex) (new : Table Simplex ℕ) where
   changed_kept o h fit roomy =
       let same = ap (fits vertex_range) (changed_model o h) in
       record {
-        good = h.good;
         used = omega (arith, changed_length o h);
         lent = omega (arith, h.lent, t.lent);
         few = t.few;
@@ -84,20 +89,24 @@ module _ (t : TableStore) (k : Simplex) (new : Table Simplex ℕ) where
         go (Some m) f = omega (arith, t.used)
 
     -- the table takes a key that it holds, or for which it has room
-    taken : (is_some (lookup by_vertices k (held t.table)) || ltb t.table.len (room t.table)) ≡ true
+    pub taken : (is_some (lookup by_vertices k (held t.table)) || ltb t.table.len (room t.table)) ≡ true
     taken = ap (λ o. is_some o || ltb t.table.len (room t.table)) (sym (lookup_entries k (held t.table))) ∙ go found free
       where
         go : (o : Option ℕ) → (unwrap_or o 0 ≡ 0 → t.table.len < t.limit) → (is_some o || ltb t.table.len (room t.table)) ≡ true
         go None f = lt-ltb t.table.len (room t.table) (omega (arith, f refl, t.lent))
         go (Some m) f = refl
 
+    -- so putting it succeeds
+    pub put_succeeds : (m : ℕ) (r : Result (Unit {0}) TableFull) → Stored by_vertices k m t.table new r → is_ok r ≡ true
+    put_succeeds m r h = h.fits ∙ taken
+
     pub put_kept : (m : ℕ) → Changed t k (Some m) new → fits vertex_range (bind (vertices k) (Some m) []) ≡ true → Kept t new
     put_kept m h fit = changed_kept (Some m) h fit roomy
 
-    pub put_changed : (m : ℕ) (r : Bool) → Stored by_vertices k m t.table new r → room new ≡ room t.table → Changed t k (Some m) new
+    pub put_changed : (m : ℕ) (r : Result (Unit {0}) TableFull) → Stored by_vertices k m t.table new r → room new ≡ room t.table → Changed t k (Some m) new
     put_changed m r h lent =
         let holds = ap (λ b. cond b (put by_vertices k (Some m) (held t.table)) (held t.table)) (h.fits ∙ taken) in
-        record { holds = h.holds ∙ holds; good = h.good; long = h.long; lent = lent }
+        record { holds = h.holds ∙ holds; long = h.long; lent = lent }
 
   pub removed_changed : Removed by_vertices k t.table new → room new ≡ room t.table → Changed t k None new
-  removed_changed h lent = record { holds = h.holds; good = h.good; long = h.long; lent = lent }
+  removed_changed h lent = record { holds = h.holds; long = h.long; lent = lent }

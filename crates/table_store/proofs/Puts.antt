@@ -1,11 +1,16 @@
 -- What a put answers in each case, and what an accepted one leaves.
-use Rattle.std.proofs.Common.{◌≡◌, ℕ, ◌<◌, Bool, true, false, cond, not, ◌&&◌, eqb, List, length, Ok, Err, ap, ◌∙◌, ⊎_elim, arith}
+use Rattle.std.proofs.Common.{◌≡◌, ℕ, ◌<◌, Bool, true, false, cond, not, ◌&&◌, eqb, List, length, Ok, Err, Result, is_ok, refl, ap, ◌∙◌, ⊎_elim, arith}
 use Rattle.std.proofs.lemmas.Bool.{and_left, and_right, and_from, cases_eq, cond-true, cond-false, eq-eqb, ne_eqb, not_from_true}
 use Rattle.complex.specs.Model.{mask, write}
 use Rattle.complex.specs.Simplex.{below}
 use Rattle.store.specs.Contents.{Contents, holding}
 use Rattle.store.specs.Puts.{put_answer, put_next, settled}
 use Rattle.store.specs.declared.refusal.StoreRefusal.TheVariants.{Full}
+
+-- a success with nothing to tell
+pub succeeds : {E : Type 0} (r : Result (Unit {0}) E) → is_ok r ≡ true → r ≡ Ok tt
+succeeds (Ok x) h = refl
+succeeds (Err e) h = cc
 
 module _ (c : Contents) (s : List ℕ) (m : ℕ) where
   pub removal_accepted : m ≡ 0 → put_answer c s m ≡ Ok tt

@@ -18,12 +18,12 @@ limit_over n = min n most_records
 
 -- as many simplexes are held as records are in use
 pub contents_length : (t : TableStore) → length (contents t).model ≡ t.table.len
-contents_length t = length_entries (held t.table) ∙ length-take-le t.table.len t.table.records.now t.good.0
+contents_length t = length_entries (held t.table) ∙ length-take-le t.table.len t.table.records.now t.table.within
 
 pub contents_stored : (t : TableStore) → Stored (contents t)
 contents_stored t =
     record {
-      sorted = rising_entries (held t.table) ∙ t.good.1;
+      sorted = rising_entries (held t.table) ∙ t.table.sorted;
       fit = t.fit;
       room = omega (arith, contents_length t, t.used);
       few = omega (arith, t.few);

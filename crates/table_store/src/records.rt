@@ -2,9 +2,8 @@
 pub mod methods;
 
 ghost use Rattle.std.specs.Prelude.{◌≡◌, ◌≤◌, true};
-ghost use Rattle.simplex.specs.Simplexes.{by_vertices};
 ghost use Rattle.store.specs.Contents.{fits};
-ghost use Rattle.table.specs.Held.{held, room, Good};
+ghost use Rattle.table.specs.Held.{held, room};
 ghost use Rattle.table_store.specs.Entries.{entries};
 ghost use Rattle.table_store.specs.Limits.{most_records, vertex_range};
 
@@ -16,7 +15,6 @@ use table::rows::Table;
 pub struct TableStore<'a> {
     table: Table<'a, Simplex, u8>,
     limit: usize,
-    ghost good: { Good by_vertices table },
     ghost used: { table.len ≤ limit },
     ghost lent: { limit ≤ room table },
     ghost few: { limit ≤ most_records },

@@ -50,7 +50,7 @@ impl<'a> Store for TableStore<'a> {
     }
 
     fn held(&self) -> usize {
-        self.table.len
+        self.table.len()
     }
 
     fn limit(&self) -> usize {
@@ -75,10 +75,9 @@ impl<'a> Store for TableStore<'a> {
         if !s.within(RANGE) {
             return Err(StoreRefusal::Range);
         }
-        if self.look(&s) == 0 && self.table.len == self.limit {
+        if self.look(&s) == 0 && self.table.len() == self.limit {
             return Err(StoreRefusal::Full);
         }
-        self.table.put(s, mask);
-        Ok(())
+        self.table.put(s, mask).map_err(|_| StoreRefusal::Full)
     }
 }

@@ -1,34 +1,58 @@
 -- The records in use after the change, and that they rise.
-use Rattle.std.proofs.Common.{◌+◌, ◌≤◌, length, Some, sym, refl, ap, ◌∙◌, arith}
-use Rattle.std.proofs.lemmas.List.{length-take-le}
-use Rattle.std.proofs.lemmas.Bool.{true≢false}
+use Rattle.std.proofs.Common.{◌+◌, set, Some, Ok, Err, sym, ap, ◌∙◌, subst, arith}
+use Rattle.std.proofs.lemmas.List.{length-set, length-take-le}
+use Rattle.std.proofs.lemmas.Bool.{true≢false, or_left, or_right, lt-ltb}
 use Rattle.order.specs.Assoc.{rising}
 use Rattle.order.proofs.Puts.{put_keeps_rising}
 use Rattle.table.specs.Held.{held}
-use Rattle.table.proofs.Changes.{drop_further}
+use Rattle.table.specs.Places.{Sought}
+use Rattle.table.proofs.Changes.{overwritten, inserted}
 use Rattle.table.proofs.rows.Table.put.Goals as goal
 
-pub returns-in-Some : goal.returns-in-Some
-returns-in-Some g c =
-    let rank = g.K.Ord.cmp in
-    let m = g.met.K.Ord in
-    let n = c.in-Some.n in
-    let after = c.put.new.rows in
-    let before = c.args.self.now in
-    let does = c.in-Some.ensures.does in
+pub invariant_of-self : goal.invariant_of-self
+invariant_of-self g c =
+    let t = c.args.self.now in
+    let k = c.args.key in
+    let v = c.args.value in
+    let sought : Sought g.K.Ord.cmp k (held t) (Ok c.in-Ok.at) = subst (λ xs. Sought g.K.Ord.cmp k xs (Ok c.in-Ok.at)) c.rows.ensures c.in-Ok.ensures in
     record {
-      room = c.put.auto.rows;
-      lender = refl;
-      rest = drop_further n (before.len + 1) after before.records.now c.in-Some.ensures.rest.0 c.in-Some.ensures.rest.1;
-      unused = c.in-Some.ensures.rest.1;
-      does = λ good.
-          let p = does good.0 good.1 in
-          let within : n ≤ length after = omega (arith, p.1, c.put.auto.rows) in
-          record {
-            fits = sym p.0;
-            holds = p.2;
-            good = (within, ap (rising rank) p.2 ∙ put_keeps_rising rank (m.total) c.args.key (Some c.args.value) (held before) good.1);
-            long = sym (length-take-le n after within);
-            untouched = λ f. absurd (true≢false f);
-          };
+      within = omega (arith, length-set t.records.now c.in-Ok.at (record { key = k; value = v }), t.within);
+      sorted = ap (rising g.K.Ord.cmp) (overwritten g.K.Ord.cmp k t.records.now t.len c.in-Ok.at t.sorted v t.within sought) ∙ put_keeps_rising g.K.Ord.cmp g.met.K.Ord.total k (Some v) (held t) t.sorted;
+    }
+
+pub invariant_of-self-in-Err : goal.invariant_of-self-in-Err
+invariant_of-self-in-Err g c =
+    let t = c.args.self.now in
+    let k = c.args.key in
+    let v = c.args.value in
+    let sought : Sought g.K.Ord.cmp k (held t) (Err c.in-Err.at) = subst (λ xs. Sought g.K.Ord.cmp k xs (Err c.in-Err.at)) c.rows.ensures c.in-Err.ensures in
+    record {
+      within = omega (arith, c.insert_at.auto.rows, c.if-self.true);
+      sorted = ap (rising g.K.Ord.cmp) (inserted g.K.Ord.cmp k t.records.now t.len c.in-Err.at t.sorted v c.insert_at.new.rows sought c.insert_at.ensures.front) ∙ put_keeps_rising g.K.Ord.cmp g.met.K.Ord.total k (Some v) (held t) t.sorted;
+    }
+
+pub returns-in-Ok-clause-does : goal.returns-in-Ok-clause-does
+returns-in-Ok-clause-does g c =
+    let t = c.args.self.now in
+    let k = c.args.key in
+    let v = c.args.value in
+    let sought : Sought g.K.Ord.cmp k (held t) (Ok c.in-Ok.at) = subst (λ xs. Sought g.K.Ord.cmp k xs (Ok c.in-Ok.at)) c.rows.ensures c.in-Ok.ensures in
+    record {
+      fits = sym (or_left _ _ (sought.1 t.sorted).1);
+      holds = overwritten g.K.Ord.cmp k t.records.now t.len c.in-Ok.at t.sorted v t.within sought;
+      long = sym (length-take-le t.len (set t.records.now c.in-Ok.at (record { key = k; value = v })) (omega (arith, length-set t.records.now c.in-Ok.at (record { key = k; value = v }), t.within)));
+      untouched = λ f. absurd (true≢false f);
+    }
+
+pub returns-in-Err-clause-does : goal.returns-in-Err-clause-does
+returns-in-Err-clause-does g c =
+    let t = c.args.self.now in
+    let k = c.args.key in
+    let v = c.args.value in
+    let sought : Sought g.K.Ord.cmp k (held t) (Err c.in-Err.at) = subst (λ xs. Sought g.K.Ord.cmp k xs (Err c.in-Err.at)) c.rows.ensures c.in-Err.ensures in
+    record {
+      fits = sym (or_right _ _ (lt-ltb _ _ c.if-self.true));
+      holds = inserted g.K.Ord.cmp k t.records.now t.len c.in-Err.at t.sorted v c.insert_at.new.rows sought c.insert_at.ensures.front;
+      long = sym (length-take-le (t.len + 1) c.insert_at.new.rows (omega (arith, c.insert_at.auto.rows, c.if-self.true)));
+      untouched = λ f. absurd (true≢false f);
     }

@@ -1,29 +1,40 @@
 -- The records in use after the removal, and that they rise.
-use Rattle.std.proofs.Common.{◌≤◌, length, None, sym, refl, ap, ◌∙◌, arith}
+use Rattle.std.proofs.Common.{◌-◌, None, Ok, Err, sym, ap, ◌∙◌, subst, arith}
 use Rattle.std.proofs.lemmas.List.{length-take-le}
 use Rattle.order.specs.Assoc.{rising}
 use Rattle.order.proofs.Puts.{put_keeps_rising}
 use Rattle.table.specs.Held.{held}
+use Rattle.table.specs.Places.{Sought}
+use Rattle.table.proofs.Changes.{taken_out, unchanged_is_put}
 use Rattle.table.proofs.rows.Table.remove.Goals as goal
 
-pub returns : goal.returns
-returns g c =
-    let rank = g.K.Ord.cmp in
-    let m = g.met.K.Ord in
-    let n = c.remove-self.result in
-    let after = c.remove-self.new.rows in
-    let kept = c.remove-self.auto.rows in
-    let does = c.remove-self.ensures.does in
+pub invariant_of-self : goal.invariant_of-self
+invariant_of-self g c =
+    let t = c.args.self.now in
+    let k = c.args.key.now in
+    let sought : Sought g.K.Ord.cmp k (held t) (Ok c.in-Ok.at) = subst (λ xs. Sought g.K.Ord.cmp k xs (Ok c.in-Ok.at)) c.rows.ensures c.in-Ok.ensures in
     record {
-      room = kept;
-      lender = refl;
-      rest = c.remove-self.ensures.rest;
-      does = λ good.
-          let p = does good.0 good.1 in
-          let within : n ≤ length after = omega (arith, p.0, kept) in
-          record {
-            holds = p.1;
-            good = (within, ap (rising rank) p.1 ∙ put_keeps_rising rank (m.total) c.args.key.now None (held c.args.self.now) good.1);
-            long = sym (length-take-le n after within);
-          };
+      within = omega (arith, c.close_gap.auto.rows, t.within);
+      sorted = ap (rising g.K.Ord.cmp) (taken_out g.K.Ord.cmp k t.records.now t.len c.in-Ok.at t.sorted c.close_gap.new.rows sought c.close_gap.ensures.front) ∙ put_keeps_rising g.K.Ord.cmp g.met.K.Ord.total k None (held t) t.sorted;
+    }
+
+pub returns-in-Ok-clause-does : goal.returns-in-Ok-clause-does
+returns-in-Ok-clause-does g c =
+    let t = c.args.self.now in
+    let k = c.args.key.now in
+    let sought : Sought g.K.Ord.cmp k (held t) (Ok c.in-Ok.at) = subst (λ xs. Sought g.K.Ord.cmp k xs (Ok c.in-Ok.at)) c.rows.ensures c.in-Ok.ensures in
+    record {
+      holds = taken_out g.K.Ord.cmp k t.records.now t.len c.in-Ok.at t.sorted c.close_gap.new.rows sought c.close_gap.ensures.front;
+      long = sym (length-take-le (t.len - 1) c.close_gap.new.rows (omega (arith, c.close_gap.auto.rows, t.within)));
+    }
+
+pub returns-in_default-clause-does : goal.returns-in_default-clause-does
+returns-in_default-clause-does g c =
+    let t = c.args.self.now in
+    let k = c.args.key.now in
+    let at = c.in_default.field-0 in
+    let sought : Sought g.K.Ord.cmp k (held t) (Err at) = subst (λ xs. Sought g.K.Ord.cmp k xs (Err at)) c.rows.ensures c.in_default.ensures in
+    record {
+      holds = unchanged_is_put g.K.Ord.cmp k (held t) (sought.1 t.sorted).1;
+      long = sym (length-take-le t.len t.records.now t.within);
     }

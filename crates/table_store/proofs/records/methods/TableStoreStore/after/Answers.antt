@@ -15,7 +15,7 @@ returns-in-Some c =
     let store = c.args.self.now in
     let rows = held store.table in
     let s = c.in-Some.s in
-    ap found (c.after.ensures store.good)
+    ap found c.after.ensures
     ∙ first_entries (later by_vertices s rows)
     ∙ ap first (later_entries s rows)
     ∙ ap (λ o. next colex (vertices_or_none o) (entries rows)) (sym c.in-Some.is)
