@@ -1,11 +1,11 @@
 -- The pairs of the record that is being made, and the record made of them.
-use Rattle.std.proofs.Common.{◌≡◌, ℕ, ◌+◌, ◌-◌, ◌*◌, ◌/◌, ◌%◌, ◌<◌, ◌≤◌, true, List, [], ◌∷◌, ◌++◌, length, get_or, take, drop, Some, sym, refl, ap, ◌∙◌, arith, length-append, length-drop, take-add}
-use Rattle.std.proofs.lemmas.List.{append_assoc, take_at, drop_at, length-take-le, take-append-le, take-take, drop-append-le, drop-take}
+use Rattle.std.proofs.Common.{◌≡◌, ℕ, ◌+◌, ◌-◌, ◌*◌, ◌/◌, ◌%◌, ◌<◌, ◌≤◌, true, List, [], ◌∷◌, ◌++◌, length, get_or, take, drop, Ok, sym, refl, ap, ◌∙◌, arith, length-append, length-drop, take-add}
+use Rattle.std.proofs.lemmas.List.{append_assoc, take_at, drop_at, length-take-le, take-append-le, take-take, drop-append-le, drop-take, drop-drop}
 use Rattle.std.proofs.lemmas.Bool.{both_ways, leb-true, cond-true}
-use Rattle.trail.specs.Notes.{capacity, note, two_bytes, masks, bytes_of_note, bytes_of, record_length, room_used, has_room}
+use Rattle.trail.specs.Notes.{capacity, Note, note, two_bytes, masks, bytes_of_note, bytes_of, record_length, room_used, has_room}
 use Rattle.trail.specs.Decoding.{pairs_of, notes_of}
-use Rattle.trail.specs.Past.{settled, past, pending, Paired, Committed}
-use Rattle.trail.specs.declared.trail.Trail.{Trail}
+use Rattle.trail.specs.Past.{Past, HoldsRecords, past_of, pending, Paired, Committed}
+use Rattle.trail.specs.declared.head.Head.{Head}
 use Rattle.trail.proofs.Decoded.{holds_of}
 use Rattle.trail.proofs.Settled.{room_is_used}
 
@@ -113,46 +113,56 @@ record_enclosed bs b₁ b₂ ru rv rs n u v s room hu hv hs first second =
 pub two_bytes_are : (n : ℕ) (r : List ℕ) → n < 65536 → r ≡ (n / 256 % 256) ∷ (n % 256) ∷ [] → r ≡ two_bytes n
 two_bytes_are n r small is = let e : n / 256 % 256 ≡ n / 256 = omega arith in is ∙ (λ d. e d ∷ n % 256 ∷ [])
 
--- a record that has room ends within the trail
-pub room_there : (t : Trail) (s : ℕ) → has_room (past t) s ≡ true → t.used + record_length s ≤ capacity
-room_there t s has =
-    let used = room_is_used t in
-    let l = leb-true (record_length s) (capacity - room_used (past t)) has in
-    omega (arith, t.within)
+module _ (bytes : List ℕ) (used : ℕ) (t : HoldsRecords bytes used) (p : Past) (view_is : past_of bytes used ≡ p) where
+  -- a record that has room ends within the trail
+  pub room_there : (s : ℕ) → has_room p.notes s ≡ true → used + record_length s ≤ capacity
+  room_there s has =
+      let taken = room_is_used bytes used t in
+      let same = ap (λ x. room_used x.notes) view_is in
+      let l = leb-true (record_length s) (capacity - room_used p.notes) has in
+      omega (arith, t.within)
 
-pub kept_before : (t : Trail) (bs : List ℕ) (i a b : ℕ) → has_room (past t) (i + 1) ≡ true → bs ≡ written_at t.bytes (t.used + 6 + 2 * i) (a ∷ b ∷ []) → take t.used bs ≡ settled t
-kept_before t bs i a b has is =
-    let room = room_there t (i + 1) has in
-    ap (take t.used) is ∙ before_written t.bytes t.used (t.used + 6 + 2 * i) (a ∷ b ∷ []) (omega arith) (omega (arith, t.size))
+  pub kept_before : (bs : List ℕ) (i a b : ℕ) → has_room p.notes (i + 1) ≡ true → bs ≡ written_at bytes (used + 6 + 2 * i) (a ∷ b ∷ []) → take used bs ≡ take used bytes
+  kept_before bs i a b has is =
+      let room = room_there (i + 1) has in
+      ap (take used) is ∙ before_written bytes used (used + 6 + 2 * i) (a ∷ b ∷ []) (omega arith) (omega (arith, t.size))
 
-pub pair_written : (t t' : Trail) (i a b : ℕ) → has_room (past t) (i + 1) ≡ true → t'.used ≡ t.used → t'.bytes ≡ written_at t.bytes (t.used + 6 + 2 * i) (a ∷ b ∷ []) → Paired i a b t t'
-pair_written t t' i a b has same is = record {
-  notes = ap notes_of kept;
-  bytes_kept = kept;
-  written = λ h. moved (i + 1) ∙ one_more_pair t.bytes (t.used + 6) i a b room;
-  before = λ n le. moved n ∙ pairs_before t.bytes (t.used + 6) i a b room n le;
-  refused = λ h. absurd (both_ways _ h has);
-}
-  where
-    room : t.used + 6 + 2 * i + 2 ≤ length t.bytes
-    room = let r = room_there t (i + 1) has in omega (arith, t.size)
+  pub pair_written : (bs : List ℕ) (i a b : ℕ) → has_room p.notes (i + 1) ≡ true → bs ≡ written_at bytes (used + 6 + 2 * i) (a ∷ b ∷ []) → Paired i a b p (past_of bs used)
+  pair_written bs i a b has is = rw (← view_is) (record {
+    notes = ap notes_of (kept_before bs i a b has is);
+    written = λ h. moved (i + 1) ∙ one_more_pair bytes (used + 6) i a b room ∙ ap (λ l. l ++ ((a, b) ∷ [])) (here i);
+    before = λ n le. moved n ∙ pairs_before bytes (used + 6) i a b room n le ∙ here n;
+    refused = λ h. absurd (both_ways _ h (ap (λ x. has_room x.notes (i + 1)) view_is ∙ has));
+  })
+    where
+      room : used + 6 + 2 * i + 2 ≤ length bytes
+      room = let r = room_there (i + 1) has in omega (arith, t.size)
 
-    kept : settled t' ≡ settled t
-    kept = ap (λ n. take n t'.bytes) same ∙ kept_before t t'.bytes i a b has is
+      here : (n : ℕ) → pairs_of (take (2 * n) (drop (used + 6) bytes)) ≡ pending (past_of bytes used) n
+      here n = ap (λ l. pairs_of (take (2 * n) l)) (sym (drop-drop 6 used bytes))
 
-    moved : (n : ℕ) → pending t' n ≡ pairs_of (take (2 * n) (drop (t.used + 6) (written_at t.bytes (t.used + 6 + 2 * i) (a ∷ b ∷ []))))
-    moved n = (λ d. pairs_of (take (2 * n) (drop (same d + 6) (is d))))
+      moved : (n : ℕ) → pending (past_of bs used) n ≡ pairs_of (take (2 * n) (drop (used + 6) (written_at bytes (used + 6 + 2 * i) (a ∷ b ∷ []))))
+      moved n = ap (λ l. pairs_of (take (2 * n) l)) (drop-drop 6 used bs ∙ ap (drop (used + 6)) is)
 
--- with the record made a trail has one more note
-pub one_more_note : (t : Trail) (bs : List ℕ) (u v s len : ℕ) → len ≡ record_length s → take (t.used + record_length s) bs ≡ settled t ++ bytes_of_note (note u v (pending t s)) → take (t.used + len) bs ≡ bytes_of (note u v (pending t s) ∷ past t)
-one_more_note t bs u v s len is made = ap (λ k. take (t.used + k) bs) is ∙ made ∙ ap (λ l. l ++ bytes_of_note (note u v (pending t s))) (sym t.formed)
+  module _ (bs : List ℕ) (head : Head) (len : ℕ) (long : len ≡ record_length head.s)
+      (made : take (used + record_length head.s) bs ≡ take used bytes ++ bytes_of_note (note head.u head.v (pairs_of (take (2 * head.s) (drop (used + 6) bytes))))) where
+    -- the note that was made
+    abbrev pub newest : Note
+    newest = note head.u head.v (pending (past_of bytes used) head.s)
 
-pub record_committed : (t t' : Trail) (u v s len : ℕ) → has_room (past t) s ≡ true → len ≡ record_length s → t'.used ≡ t.used + len → take (t.used + record_length s) t'.bytes ≡ settled t ++ bytes_of_note (note u v (pending t s)) → Committed u v s t t' (Some len)
-record_committed t t' u v s len has is longer made = record {
-  answer = ap Some is ∙ sym (cond-true _ _ _ has);
-  notes = ap notes_of at ∙ holds_of _ (note u v (pending t s) ∷ past t) (one_more_note t t'.bytes u v s len is made) ∙ sym (cond-true _ _ _ has);
-  written = at ∙ ap (λ k. take (t.used + k) t'.bytes) is ∙ made ∙ sym (cond-true _ _ _ has);
-}
-  where
-    at : settled t' ≡ take (t.used + len) t'.bytes
-    at = ap (λ k. take k t'.bytes) longer
+    -- with the record made a trail has one more note
+    pub one_more_note : take (used + len) bs ≡ bytes_of (newest ∷ notes_of (take used bytes))
+    one_more_note =
+        ap (λ k. take (used + k) bs) long
+        ∙ made
+        ∙ ap (λ l. take used bytes ++ bytes_of_note (note head.u head.v (pairs_of (take (2 * head.s) l)))) (sym (drop-drop 6 used bytes))
+        ∙ ap (λ l. l ++ bytes_of_note newest) (sym t.formed)
+
+    pub record_committed : has_room p.notes head.s ≡ true → Committed head p (past_of bs (used + len)) (Ok len)
+    record_committed has = rw (← view_is) (record {
+      answer = ap Ok long ∙ sym (cond-true _ _ _ there);
+      notes = holds_of _ (newest ∷ notes_of (take used bytes)) one_more_note ∙ sym (cond-true _ _ _ there);
+    })
+      where
+        there : has_room (notes_of (take used bytes)) head.s ≡ true
+        there = ap (λ x. has_room x.notes head.s) view_is ∙ has

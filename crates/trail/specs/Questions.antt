@@ -1,11 +1,8 @@
 -- What is asked of the notes.
-use Rattle.std.specs.Prelude.{ℕ, Bool, false, cond, ◌||◌, List, [], ◌∷◌, length, Some, None, Option, ◌==◌, slice_index_or}
+use Rattle.std.specs.Prelude.{ℕ, Bool, false, cond, ◌||◌, List, [], ◌∷◌, Some, None, Option, ◌==◌, slice_index_or}
 use Rattle.trail.specs.Notes.{Note}
+use Rattle.trail.specs.Heads.{head_of}
 use Rattle.trail.specs.declared.head.Head.{Head}
-
--- u, v and the number of pairs
-abbrev pub head_of : Note → Head
-head_of n = record { u = n.u; v = n.v; s = length n.pairs }
 
 -- the head of the newest note, if there is one
 abbrev pub newest_head : List Note → Option Head

@@ -1,7 +1,7 @@
 // What stands at the head of a record.
 
 // v was merged into u, which left s pairs of masks.
-#[derive(Clone, Copy)]
+#[derive(Debug, Clone, Copy, PartialEq, Eq)]
 pub struct Head {
     pub u: u16,
     pub v: u16,

@@ -3,6 +3,8 @@ ghost use Rattle.std.specs.Prelude.{◌≡◌, ◌+◌, ◌*◌, ◌<◌, ◌≤
 ghost use Rattle.trail.specs.Notes.{note, bytes_of_note, head_length, record_length};
 ghost use Rattle.trail.specs.Decoding.{word, pairs_of};
 
+use crate::head::Head;
+
 // The bytes of a record before its pairs, and after them.
 pub(crate) const HEAD: usize = 6;
 
@@ -24,6 +26,21 @@ pub(crate) fn word_at(bytes: &[u8], at: usize) -> u16
     u16::from_be_bytes([bytes[at], bytes[at + 1]])
 }
 
+// The head that begins at a place.
+pub(crate) fn head_at(bytes: &[u8], at: usize) -> Head
+    requires { at + head_length ≤ length bytes.now }
+    ensures u { result.u ≡ word (drop at bytes.now) }
+    ensures v { result.v ≡ word (drop (at + 2) bytes.now) }
+    ensures s { result.s ≡ word (drop (at + 4) bytes.now) }
+    ensures few { result.s < 65536 }
+{
+    Head {
+        u: word_at(bytes, at),
+        v: word_at(bytes, at + 2),
+        s: word_at(bytes, at + 4) as usize,
+    }
+}
+
 // Writes a part over the bytes from a place on.
 pub(crate) fn overwrite(bytes: &mut [u8], at: usize, part: &[u8])
     requires { at + length part.now ≤ length bytes.old }
@@ -32,14 +49,15 @@ pub(crate) fn overwrite(bytes: &mut [u8], at: usize, part: &[u8])
     bytes[at..at + part.len()].copy_from_slice(part);
 }
 
-// Writes head and foot around the s pairs of a record that begins at a place.
-pub(crate) fn enclose(bytes: &mut [u8], at: usize, u: u16, v: u16, s: u16)
-    requires { at + record_length s ≤ length bytes.old }
-    ensures { take (at + record_length s) bytes.new ≡ take at bytes.old ++ bytes_of_note (note u v (pairs_of (take (2 * s) (drop (at + head_length) bytes.old)))) }
+// Writes head and foot around the pairs of a record that begins at a place.
+pub(crate) fn enclose(bytes: &mut [u8], at: usize, head: Head)
+    requires few { head.s < 65536 }
+    requires room { at + record_length head.s ≤ length bytes.old }
+    ensures { take (at + record_length head.s) bytes.new ≡ take at bytes.old ++ bytes_of_note (note head.u head.v (pairs_of (take (2 * head.s) (drop (at + head_length) bytes.old)))) }
 {
-    let [u_high, u_low] = u.to_be_bytes();
-    let [v_high, v_low] = v.to_be_bytes();
-    let [s_high, s_low] = s.to_be_bytes();
+    let [u_high, u_low] = head.u.to_be_bytes();
+    let [v_high, v_low] = head.v.to_be_bytes();
+    let [s_high, s_low] = (head.s as u16).to_be_bytes();
     overwrite(bytes, at, &[u_high, u_low, v_high, v_low, s_high, s_low]);
-    overwrite(bytes, at + HEAD + 2 * s as usize, &[s_high, s_low]);
+    overwrite(bytes, at + HEAD + 2 * head.s, &[s_high, s_low]);
 }

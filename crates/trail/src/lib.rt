@@ -4,4 +4,6 @@
 pub mod head;
 pub mod law;
 mod layout;
+pub mod refusal;
 pub mod trail;
+mod walk;

@@ -2,19 +2,25 @@
 pub mod changes;
 pub mod questions;
 
-ghost use Rattle.std.specs.Prelude.{◌≡◌, ◌≤◌, length, take};
-ghost use Rattle.trail.specs.Notes.{capacity, bytes_of};
-ghost use Rattle.trail.specs.Decoding.{notes_of};
+use std::marker::Model;
 
 // How many bytes a trail has.
 pub const CAPACITY: usize = 32768;
 
 // The first `used` bytes are the records; the others are unsettled.
+// Fixed memory: a trail keeps its bytes in an array of its own, and no memory is asked for.
 #[derive(Drop)]
 pub struct Trail {
     bytes: [u8; CAPACITY],
     used: usize,
-    ghost size: { length bytes ≡ capacity },
-    ghost within: { used ≤ capacity },
-    ghost formed: { bytes_of (notes_of (take used bytes)) ≡ take used bytes },
+}
+
+impl Model for Trail {
+    ghost use Rattle.trail.specs.Past.{Past, past_of, HoldsRecords};
+
+    ghost Value = { Past };
+
+    ghost view = { λ t. past_of t.bytes t.used };
+
+    ghost invariant = { λ t. HoldsRecords t.bytes t.used };
 }

@@ -1,19 +1,18 @@
 -- The pairs stand before the number at the end.
-use Rattle.std.proofs.Common.{sym, arith}
-use Rattle.trail.proofs.Newest.{newest_room, pair_is_read, no_pair}
+use Rattle.std.proofs.Common.{arith}
+use Rattle.trail.proofs.Newest.{newest_room, pair_is_read}
 use Rattle.trail.proofs.trail.Trail.pair.Goals as goal
 
-pub returns-then-i-head : goal.returns-then-i-head
-returns-then-i-head c = sym (no_pair c.args.self.now c.in-Some.head c.args.i c.in-Some.ensures c.if-i-head.true)
-
-pub overflow_sub-at : goal.overflow_sub-at
-overflow_sub-at c = let room = newest_room c.args.self.now c.in-Some.head c.in-Some.ensures in omega arith
-
 pub overflow_mul-at : goal.overflow_mul-at
-overflow_mul-at c = let room = newest_room c.args.self.now c.in-Some.head c.in-Some.ensures in omega (arith, c.args.self.now.within)
+overflow_mul-at c =
+    let room = newest_room _ _ c.self.invariant _ c.self.view_is c.in-Some.head c.in-Some.ensures in
+    omega (arith, c.self.invariant.within)
 
-pub overflow_sub-at-3 : goal.overflow_sub-at-3
-overflow_sub-at-3 c = let room = newest_room c.args.self.now c.in-Some.head c.in-Some.ensures in omega arith
+pub overflow_sub-at-in-Some-2 : goal.overflow_sub-at-in-Some-2
+overflow_sub-at-in-Some-2 c =
+    let room = newest_room _ _ c.self.invariant _ c.self.view_is c.in-Some.head c.in-Some.ensures in
+    omega arith
 
-pub returns : goal.returns
-returns c = pair_is_read c.args.self.now c.in-Some.head c.args.i c.in-Some.ensures c.if-i-head.false
+pub returns-in-Some : goal.returns-in-Some
+returns-in-Some c =
+    pair_is_read _ _ c.self.invariant _ c.self.view_is c.in-Some.head c.args.i c.in-Some.ensures c.if-i-head.true
