@@ -3,19 +3,15 @@ use Rattle.std.proofs.Common.{◌≡◌, ℕ, zero, suc, ◌+◌, ◌-◌, ◌/�
 use lib.Bits.{bit_and, bit_or}
 use Rattle.std.proofs.lemmas.Nat.{shr-shr}
 use Rattle.std.proofs.lemmas.Bool.{and_left, and_right, cases_Bool, cond-false, cond-true}
-use Rattle.order.specs.Assoc.{first, later, next}
-use Rattle.order.specs.declared.record.Record.{Record}
-use Rattle.order.proofs.Laters.{later_step}
 use Rattle.complex.specs.Mask.{bit}
-use Rattle.complex.specs.Model.{Model, mask, Sorted}
-use Rattle.complex.specs.Simplex.{colex, has, plus, less, Rising}
+use Rattle.complex.specs.Model.{Model, mask}
+use Rattle.complex.specs.Simplex.{has, plus, less, Rising}
 use Rattle.complex.proofs.Masks.{bit_of_or, bit_of_none}
-use Rattle.complex.proofs.Order.{colex_lawful}
 use Rattle.collapse.specs.Split.{bases}
 use Rattle.collapse.proofs.Images.{bit_of_and}
 use Rattle.collapse.proofs.Vertices.{has_plus, has_less, plus_comm, plus_less, plus_rising, less_rising, same_has}
-use Rattle.model.specs.Calls.{parts}
-use Rattle.model.specs.Ties.{shows, first_of, tie_in, or_later, tie_from}
+use Rattle.store.specs.Walk.{keys}
+use Rattle.model.specs.Ties.{shows, first_of, tie_in, or_later}
 use Rattle.model.proofs.Tying.{passes, first_step}
 
 next_bit : (p m : ℕ) → bit (suc p) m ≡ bit p (m / 2)
@@ -77,41 +73,23 @@ module _ (p u v : ℕ) (M : Model) (k : List ℕ) (rise : Rising k) where
       joined : (ab a b n c x y : Bool) → ab ≡ (a && b) → n ≡ not c → x ≡ true → y ≡ false → (ab && n) ≡ (x && (not y && (a && (b && not c))))
       joined ab a b n c x y i j h w = grind arith
 
--- the walk to the next simplex, and what is later than that
-next_first : (M : Model) (q s : List ℕ) → Sorted M → Some s ≡ next colex q M → (r : Record (List ℕ) ℕ) × (later colex q M ≡ r ∷ later colex s M) × (r.key ≡ s)
-next_first M q s sorted h = go (later colex q M) refl h
-  where
-    go : (L : Model) → later colex q M ≡ L → Some s ≡ first L → (r : Record (List ℕ) ℕ) × (later colex q M ≡ r ∷ later colex s M) × (r.key ≡ s)
-    go [] e h = let z : ◌≡◌ {A = ℕ} 0 1 = cc in absurd (omega arith)
-    go (r ∷ rs) e h =
-        let same : r.key ≡ s = cc in
-        (r, e ∙ ap (λ t. r ∷ t) (sym (later_step colex colex_lawful M q r rs sorted e) ∙ ap (λ k. later colex k M) same), same)
+-- the first base, of the simplexes of a list that have u, that passes
+abbrev pub first_among : ℕ → (List ℕ → Bool) → List (List ℕ) → Option (List ℕ)
+first_among u f [] = None
+first_among u f (k ∷ ks) = cond (passes u f k) (Some (less u k)) (first_among u f ks)
 
--- the first of the bases that are left, one simplex further
-first_walked : (u : ℕ) (f : List ℕ → Bool) (M : Model) (q s : List ℕ) → Sorted M → Some s ≡ next colex q M →
-    first_of f (bases u (later colex q M)) ≡ cond (passes u f s) (Some (less u s)) (first_of f (bases u (later colex s M)))
-first_walked u f M q s sorted h =
-    let n = next_first M q s sorted h in
-    ap (λ L. first_of f (bases u L)) n.1 ∙ first_step u f n.0 (later colex s M)
-    ∙ ap (λ k. cond (passes u f k) (Some (less u k)) (first_of f (bases u (later colex s M)))) n.2
+-- of the simplexes of a model, it is the first of its bases that passes
+pub first_among_all : (u : ℕ) (f : List ℕ → Bool) (M : Model) → first_among u f (keys M) ≡ first_of f (bases u M)
+first_among_all u f [] = refl
+first_among_all u f (r ∷ rs) = ap (λ o. cond (passes u f r.key) (Some (less u r.key)) o) (first_among_all u f rs) ∙ sym (first_step u f r rs)
 
--- where the simplex passes, its base is the first
-pub first_here : (u : ℕ) (f : List ℕ → Bool) (M : Model) (q s : List ℕ) → Sorted M → Some s ≡ next colex q M → passes u f s ≡ true →
-    first_of f (bases u (later colex q M)) ≡ Some (less u s)
-first_here u f M q s sorted h e = first_walked u f M q s sorted h ∙ cond-true _ _ _ e
-
--- where the simplex does not pass, the first is further on
-pub first_further : (u : ℕ) (f : List ℕ → Bool) (M : Model) (q s : List ℕ) → Sorted M → Some s ≡ next colex q M → passes u f s ≡ false →
-    first_of f (bases u (later colex s M)) ≡ first_of f (bases u (later colex q M))
-first_further u f M q s sorted h e = sym (first_walked u f M q s sorted h ∙ cond-false _ _ _ e)
-
--- some base that is left passes where this one does or some later one
-pub some_from_here_on : (u : ℕ) (f : List ℕ → Bool) (M : Model) (q s : List ℕ) (p old new : ℕ) (all : Bool) → Sorted M → Some s ≡ next colex q M → bit p new ≡ passes u f s →
-    (bit p old || is_some (first_of f (bases u (later colex q M)))) ≡ all → (bit p (bit_or old new) || is_some (first_of f (bases u (later colex s M)))) ≡ all
-some_from_here_on u f M q s p old new all sorted h e inv =
+-- some base passes here or further on
+pub some_from_here_on : (u : ℕ) (f : List ℕ → Bool) (k : List ℕ) (ks : List (List ℕ)) (p old new : ℕ) (all : Bool) → bit p new ≡ passes u f k →
+    (bit p old || is_some (first_among u f (k ∷ ks))) ≡ all → (bit p (bit_or old new) || is_some (first_among u f ks)) ≡ all
+some_from_here_on u f k ks p old new all e inv =
     let i = bit_of_or p old new in
-    let j = ap is_some (first_walked u f M q s sorted h) ∙ either (passes u f s) (less u s) (first_of f (bases u (later colex s M))) in
-    regrouped (bit p (bit_or old new)) (bit p old) (bit p new) (passes u f s) (is_some (first_of f (bases u (later colex s M)))) (is_some (first_of f (bases u (later colex q M)))) i e j ∙ inv
+    let j = either (passes u f k) (less u k) (first_among u f ks) in
+    regrouped (bit p (bit_or old new)) (bit p old) (bit p new) (passes u f k) (is_some (first_among u f ks)) (is_some (first_among u f (k ∷ ks))) i e j ∙ inv
   where
     either : (b : Bool) (t : List ℕ) (o : Option (List ℕ)) → is_some (cond b (Some t) o) ≡ (b || is_some o)
     either true t o = refl
@@ -120,13 +98,9 @@ some_from_here_on u f M q s p old new all sorted h e inv =
     regrouped : (on o n b x y : Bool) → on ≡ (o || n) → n ≡ b → y ≡ (b || x) → (on || x) ≡ (o || y)
     regrouped on o n b x y i e j = grind arith
 
--- none passes where none is left
-pub none_left : (u : ℕ) (f : List ℕ → Bool) (M : Model) (q : List ℕ) → later colex q M ≡ [] → first_of f (bases u (later colex q M)) ≡ None
-none_left u f M q e = ap (λ L. first_of f (bases u L)) e
-
--- the bits are all that is told where no base is left
-pub told_at_end : (b all : Bool) (o : Option (List ℕ)) → o ≡ None → (b || is_some o) ≡ all → b ≡ all
-told_at_end b all o e h = sym (or_none b) ∙ ap (λ x. b || is_some x) (sym e) ∙ h
+-- the bits are all that is told where no simplex is left
+pub told_at_end : (u : ℕ) (f : List ℕ → Bool) (ks : List (List ℕ)) (b all : Bool) → ks ≡ [] → (b || is_some (first_among u f ks)) ≡ all → b ≡ all
+told_at_end u f ks b all e h = sym (or_none b) ∙ ap (λ x. b || is_some (first_among u f x)) (sym e) ∙ h
   where
     or_none : (b : Bool) → (b || false) ≡ b
     or_none true = refl
@@ -136,14 +110,15 @@ pub is_none : (o : Option (List ℕ)) → is_some o ≡ false → o ≡ None
 is_none None h = refl
 is_none (Some s) h = cc
 
--- the parts from a on, by what there is for a
-next_part : (a u v : ℕ) (M : Model) → a < parts → tie_from a (parts - a) u v M ≡ or_later a (tie_in a u v M) (tie_from (a + 1) (parts - (a + 1)) u v M)
-next_part a u v M l = let e : 8 - a ≡ suc (8 - (a + 1)) = omega arith in ap (λ n. tie_from a n u v M) e
+-- the first of these parts for which there is one
+abbrev pub tie_among : List ℕ → ℕ → ℕ → Model → Option (ℕ × List ℕ)
+tie_among [] u v M = None
+tie_among (p ∷ ps) u v M = or_later p (tie_in p u v M) (tie_among ps u v M)
 
 -- a part for which there is none is passed over
-pub part_passed : (a u v : ℕ) (M : Model) (o : Option (ℕ × List ℕ)) → a < parts → tie_in a u v M ≡ None → tie_from a (parts - a) u v M ≡ o → tie_from (a + 1) (parts - (a + 1)) u v M ≡ o
-part_passed a u v M o l e h = sym (next_part a u v M l ∙ ap (λ t. or_later a t (tie_from (a + 1) (parts - (a + 1)) u v M)) e) ∙ h
+pub part_passed : (p : ℕ) (ps : List ℕ) (u v : ℕ) (M : Model) (o : Option (ℕ × List ℕ)) → tie_in p u v M ≡ None → tie_among (p ∷ ps) u v M ≡ o → tie_among ps u v M ≡ o
+part_passed p ps u v M o e h = sym (ap (λ t. or_later p t (tie_among ps u v M)) e) ∙ h
 
 -- a part for which there is one is the smallest
-pub part_found : (a u v : ℕ) (M : Model) (s : List ℕ) (o : Option (ℕ × List ℕ)) → a < parts → tie_in a u v M ≡ Some s → tie_from a (parts - a) u v M ≡ o → Some (a, s) ≡ o
-part_found a u v M s o l e h = sym (next_part a u v M l ∙ ap (λ t. or_later a t (tie_from (a + 1) (parts - (a + 1)) u v M)) e) ∙ h
+pub part_found : (p : ℕ) (ps : List ℕ) (u v : ℕ) (M : Model) (s : List ℕ) (o : Option (ℕ × List ℕ)) → tie_in p u v M ≡ Some s → tie_among (p ∷ ps) u v M ≡ o → Some (p, s) ≡ o
+part_found p ps u v M s o e h = sym (ap (λ t. or_later p t (tie_among ps u v M)) e) ∙ h

@@ -2,8 +2,9 @@ pub mod Counted
 pub mod Tying
 pub mod Failing
 pub mod Noting
-pub mod Bases
+pub mod Ahead
 pub mod Noted
 pub mod Merging
 pub mod Passing
 pub mod Splitting
+pub mod Facing

@@ -25,7 +25,8 @@ use Rattle.store.specs.Puts.{put_next}
 use Rattle.store.proofs.Walks.{few_counted, fit_parts, walk_ends, all_later, none_is_zero}
 use Rattle.trail.specs.Notes.{Note}
 use Rattle.trail.specs.Questions.{newest_pair}
-use Rattle.model.specs.Splits.{newest_pairs, one_sided, sided, one_held, Takes, SplitsAt, Undoes}
+use Rattle.model.specs.Sides.{one_sided, sided, first_sided}
+use Rattle.model.specs.Splits.{newest_pairs, one_held, Takes, SplitsAt, Undoes}
 use Rattle.model.specs.Changes.{put_accepted}
 use Rattle.history.proofs.Fitted.{fits_shaped, fits_ranged}
 use Rattle.model.proofs.Passing.{later_put, passing_rising, passing_later, passing_put}
@@ -214,24 +215,17 @@ module _ (u v : ℕ) (K : Model) (sorted : Sorted K) where
   sided_later : (q : List ℕ) → later colex q (sided u v K) ≡ sided u v (later colex q K)
   sided_later q = passing_later colex colex_lawful (one_sided u v) q K sorted
 
-  -- going through all simplexes, until one has u and not v
-  pub passes : (q t : List ℕ) → Some t ≡ next colex q K → one_sided u v t ≡ false → later colex t (sided u v K) ≡ later colex q (sided u v K)
-  passes q t found out =
-      let p = first_is (later colex q K) t found in
-      let r = p.0 in
-      let step = later_step colex colex_lawful K q r p.1 sorted p.2 in
-      let left : sided u v (r ∷ p.1) ≡ sided u v p.1 = cond-false (one_sided u v r.key) _ _ (ap (one_sided u v) p.3 ∙ out) in
-      sym (ap (λ k. later colex k (sided u v K)) p.3) ∙ sided_later r.key ∙ ap (sided u v) step ∙ sym left ∙ sym (ap (sided u v) p.2) ∙ sym (sided_later q)
-
-  pub meets : (q t : List ℕ) → Some t ≡ next colex q K → one_sided u v t ≡ true → Some t ≡ next colex q (sided u v K)
-  meets q t found here =
-      let p = first_is (later colex q K) t found in
-      let r = p.0 in
-      let kept : sided u v (r ∷ p.1) ≡ r ∷ sided u v p.1 = cond-true (one_sided u v r.key) _ _ (ap (one_sided u v) p.3 ∙ here) in
-      sym (ap first (sided_later q ∙ ap (sided u v) p.2 ∙ kept) ∙ ap Some p.3)
-
-  pub meets_none : (q : List ℕ) → None ≡ next colex q K → None ≡ next colex q (sided u v K)
-  meets_none q none = sym (ap first (sided_later q ∙ ap (sided u v) (walk_ends K q none)))
+  -- the first of those that are found is the next with u and without v
+  pub sided_is_next : (q : List ℕ) → first_sided u v (later colex q K) ≡ next colex q (sided u v K)
+  sided_is_next q = go (later colex q K) ∙ sym (ap first (sided_later q))
+    where
+      go : (L : Model) → first_sided u v L ≡ first (sided u v L)
+      go [] = refl
+      go (r ∷ rs) = one (go rs) (one_sided u v r.key)
+        where
+          one : first_sided u v rs ≡ first (sided u v rs) → (b : Bool) → cond b (Some r.key) (first_sided u v rs) ≡ first (cond b (r ∷ sided u v rs) (sided u v rs))
+          one more true = refl
+          one more false = more
 
   -- the next of the simplexes with u and without v stands over the next base
   next_base : (q t : List ℕ) → Some t ≡ next colex q (sided u v K) → (has u t ≡ true) × (ahead u v K q ≡ less u t ∷ ahead u v K t)

@@ -1,5 +1,5 @@
 -- The bases of a collapse, found by two walks over the model before it.
-use Rattle.std.specs.Prelude.{ℕ, cond, not, ◌&&◌, List, [], ◌∷◌, length, Some, None, Option}
+use Rattle.std.specs.Prelude.{ℕ, cond, not, ◌&&◌, List, [], ◌∷◌, length, Some, None, Ok, Err, Option, Result}
 use Rattle.std.specs.Ordering.{is_eq}
 use Rattle.order.specs.Assoc.{by, later}
 use Rattle.complex.specs.Model.{Model}
@@ -7,6 +7,7 @@ use Rattle.complex.specs.Simplex.{colex, has}
 use Rattle.collapse.specs.Image.{less}
 use Rattle.collapse.specs.Split.{bases, pairs_of}
 use Rattle.trail.specs.Notes.{Note, has_room}
+use Rattle.trail.specs.declared.refusal.TrailFull.{TrailFull}
 
 -- the records of the simplexes without v
 abbrev pub lacking : ℕ → Model → Model
@@ -27,11 +28,6 @@ abbrev pub merged_lists : List (List ℕ) → List (List ℕ) → List (List ℕ
 merged_lists [] ys = ys
 merged_lists (x ∷ xs) ys = insert x (merged_lists xs ys)
 
--- the first simplex of these records that has u and has not v
-abbrev pub first_with : ℕ → ℕ → Model → Option (List ℕ)
-first_with u v [] = None
-first_with u v (r ∷ rs) = cond (has u r.key && not (has v r.key)) (Some r.key) (first_with u v rs)
-
 -- the bases from this simplex on, which has u and has not v; none where there is no such simplex
 abbrev pub ahead : ℕ → ℕ → Model → Option (List ℕ) → List (List ℕ)
 ahead u v M None = []
@@ -47,11 +43,6 @@ abbrev pub past_base : List ℕ → List (List ℕ) → List (List ℕ)
 past_base q [] = []
 past_base q (x ∷ xs) = cond (is_eq (colex x q)) xs (x ∷ xs)
 
--- where a walk stands once q is noted: it goes on where q was its base
-abbrev pub gone_on : ℕ → ℕ → Model → List ℕ → Option (List ℕ) → Option (List ℕ)
-gone_on u v M q None = None
-gone_on u v M q (Some s) = cond (is_eq (colex (less u s) q)) (first_with u v (later colex s M)) (Some s)
-
 -- the lesser of two lists, either of which may be absent
 abbrev pub lesser : Option (List ℕ) → Option (List ℕ) → Option (List ℕ)
 lesser None o = o
@@ -59,5 +50,5 @@ lesser (Some x) None = Some x
 lesser (Some x) (Some y) = Some (by (colex x y) x x y)
 
 -- how many pairs the record of a collapse has, if it fits behind these notes
-abbrev pub note_answer : ℕ → ℕ → Model → List Note → Option ℕ
-note_answer u v M ns = cond (has_room ns (length (pairs_of u v M))) (Some (length (pairs_of u v M))) None
+abbrev pub note_answer : ℕ → ℕ → Model → List Note → Result ℕ TrailFull
+note_answer u v M ns = cond (has_room ns (length (pairs_of u v M))) (Ok (length (pairs_of u v M))) (Err (record {}))

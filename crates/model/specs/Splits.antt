@@ -14,14 +14,6 @@ abbrev pub newest_pairs : List Note → List (ℕ × ℕ)
 newest_pairs [] = []
 newest_pairs (n ∷ ns) = n.pairs
 
--- u is one of the vertices and v is not
-abbrev pub one_sided : ℕ → ℕ → List ℕ → Bool
-one_sided u v s = has u s && not (has v s)
-
--- the held simplexes with u and without v
-abbrev pub sided : ℕ → ℕ → Model → Model
-sided u v M = filter (λ r. one_sided u v r.key) M
-
 -- 1 for the mask of a held simplex, 0 for that of an absent one
 abbrev pub one_held : ℕ → ℕ
 one_held m = cond (m == 0) 0 1

@@ -41,7 +41,7 @@ tie u v M = tie_from 0 parts u v M
 
 -- a tie of the code by its part and its vertices
 abbrev pub told_tie : Option Tie → Option (ℕ × List ℕ)
-told_tie o = option_map (λ t. (t.part, vertices_or_none t.base)) o
+told_tie o = option_map (λ t. (t.part.number, vertices_or_none t.base)) o
 
 -- what the search tells of the link condition
 pub record Searched (u v : ℕ) (M : Model) : Type 0 where

@@ -1,6 +1,7 @@
 // The model level: drafts and working models over every store, and what they can be asked.
 #![tactic(auto)]
 
+mod bases;
 mod edits;
 pub mod faces;
 mod merges;

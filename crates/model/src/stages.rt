@@ -2,7 +2,7 @@
 ghost use Rattle.std.specs.Prelude.{◌≡◌, length};
 ghost use Rattle.complex.specs.Model.{Legal};
 ghost use Rattle.store.specs.Contents.{Contents, Stored};
-ghost use Rattle.model.specs.Calls.{emptied, Lays, Marks, look_answer, euler_answer, model_number};
+ghost use Rattle.model.specs.Calls.{emptied, Lays, Marks, look_answer, euler_answer};
 
 use crate::edits::{lay_simplex, mark_simplex, remove_all};
 use crate::part::Part;
@@ -70,9 +70,7 @@ impl<'a, S: Store> Draft<'a, S> {
         ensures { Lays self.old self.new vertices.now result }
     {
         let store = &mut *self.store;
-        let Some(simplex) = Simplex::of(vertices) else {
-            return Err(ModelRefusal::Vertices);
-        };
+        let simplex = Simplex::try_from(vertices)?;
         lay_simplex(store, &simplex)
     }
 
@@ -84,12 +82,8 @@ impl<'a, S: Store> Draft<'a, S> {
         if part == 0 {
             return Err(ModelRefusal::Part);
         }
-        let Some(part) = Part::of(part) else {
-            return Err(ModelRefusal::Part);
-        };
-        let Some(simplex) = Simplex::of(vertices) else {
-            return Err(ModelRefusal::Vertices);
-        };
+        let part = Part::try_from(part)?;
+        let simplex = Simplex::try_from(vertices)?;
         mark_simplex(store, part, &simplex)
     }
 
@@ -116,9 +110,7 @@ impl<'a, S: Store> Working<'a, S> {
     pub fn look(&self, vertices: &[u16]) -> Result<u8, ModelRefusal>
         ensures { result ≡ look_answer self.now vertices.now }
     {
-        let Some(simplex) = Simplex::of(vertices) else {
-            return Err(ModelRefusal::Vertices);
-        };
+        let simplex = Simplex::try_from(vertices)?;
         if simplex.within(self.store.range()) {
             Ok(self.store.look(&simplex))
         } else {
@@ -130,25 +122,6 @@ impl<'a, S: Store> Working<'a, S> {
     pub fn euler(&self, part: u16) -> Result<i32, ModelRefusal>
         ensures { result ≡ euler_answer self.now part }
     {
-        match Part::of(part) {
-            Some(part) => Ok(euler(&*self.store, part)),
-            None => Err(ModelRefusal::Part),
-        }
-    }
-}
-
-impl ModelRefusal {
-    // The number of the refusal.
-    pub fn number(&self) -> u8
-        ensures { result ≡ model_number self.now }
-    {
-        match self {
-            ModelRefusal::Part => 1,
-            ModelRefusal::Vertices => 2,
-            ModelRefusal::Range => 3,
-            ModelRefusal::Held => 21,
-            ModelRefusal::Full => 22,
-            ModelRefusal::Absent => 23,
-        }
+        Ok(euler(&*self.store, Part::try_from(part)?))
     }
 }

@@ -1,5 +1,7 @@
 -- Walking through all that a store holds by asking again and again for the next simplex.
 use Rattle.std.proofs.Common.{◌≡◌, ℕ, ◌+◌, ◌<◌, ◌≤◌, true, ◌&&◌, ltb, leb, List, [], ◌∷◌, length, Some, None, Ordering, Less, Equal, Greater, unwrap_or, sym, refl, ap, ◌∙◌, arith}
+use Rattle.std.specs.Prelude.{sum_by}
+use Rattle.std.proofs.lemmas.List.Sums.{sum_by-cons}
 use Rattle.std.proofs.lemmas.Bool.{and_parts, leb-true, ltb-true}
 use Rattle.order.specs.declared.record.Record.{Record}
 use Rattle.order.specs.Assoc.{by, lookup, later, first, next, total, weigh}
@@ -88,6 +90,17 @@ pub all_later : (n : ℕ) (M : Model) → fits n M ≡ true → later colex [] M
 all_later n [] f = refl
 all_later n (r ∷ rs) f =
     longer r.key (leb-true 1 (length r.key) (and_parts (leb 1 (length r.key)) (leb (length r.key) 4 && rises r.key) (fit_parts n r rs f).simplex).0) (later colex [] rs) rs (r ∷ rs)
+
+-- a sum over what is later than q, by the masks of its simplexes
+pub total_by_masks : (w : List ℕ → ℕ → ℕ) (M : Model) → Sorted M → (q : List ℕ) → total w (later colex q M) ≡ sum_by (λ k. w k (mask M k)) (keys (later colex q M))
+total_by_masks w M sorted q = go q (later colex q M) refl
+  where
+    go : (q : List ℕ) (L : Model) → later colex q M ≡ L → total w L ≡ sum_by (λ k. w k (mask M k)) (keys L)
+    go q [] e = refl
+    go q (r ∷ rs) e =
+        let value : mask M r.key ≡ r.value = ap (λ o. unwrap_or o 0) (later_found colex colex_lawful M q r rs sorted e) in
+        let more = go r.key rs (later_step colex colex_lawful M q r rs sorted e) in
+        omega (arith, more, ap (w r.key) value, sum_by-cons (λ k. w k (mask M k)) r.key (keys rs))
 
 -- no mask is 0
 pub none_is_zero : (n : ℕ) (M : Model) → fits n M ≡ true → (q : List ℕ) → lookup colex q M ≡ Some 0 → ⊥

@@ -5,7 +5,7 @@ ghost use Rattle.complex.specs.Model.{mask};
 ghost use Rattle.complex.specs.Simplex.{colex};
 ghost use Rattle.simplex.specs.Simplexes.{vertices, vertices_or_none, found};
 ghost use Rattle.store.specs.Contents.{Contents, Stored};
-ghost use Rattle.store.specs.Puts.{put_answer, put_next, store_number};
+ghost use Rattle.store.specs.Puts.{put_answer, put_next};
 
 use crate::refusal::StoreRefusal;
 use simplex::simplex::Simplex;
@@ -41,16 +41,4 @@ pub trait Store {
     fn put(&mut self, s: Simplex, mask: u8) -> Result<(), StoreRefusal>
         ensures value { result ≡ put_answer (contents self.old) (vertices s) mask }
         ensures after { contents self.new ≡ put_next (contents self.old) (vertices s) mask };
-}
-
-impl StoreRefusal {
-    // The number of the refusal.
-    pub fn number(&self) -> u8
-        ensures { result ≡ store_number self.now }
-    {
-        match self {
-            StoreRefusal::Range => 3,
-            StoreRefusal::Full => 22,
-        }
-    }
 }

@@ -1,22 +1,45 @@
-ghost use Rattle.std.specs.Prelude.{◌≡◌, ◌^◌, if◌then◌else◌, Some, None, nat_lt};
-ghost use Rattle.std.specs.Option.{option_map};
+// A part by its number, and its bit of a mask.
+ghost use Rattle.std.specs.Prelude.{◌≡◌, ◌^◌};
 ghost use Rattle.complex.specs.Mask.{bit};
+ghost use Rattle.std.specs.Iterator.{YieldsFirstBy, item_count};
+ghost use Rattle.std.specs.List.{range_with_len};
 ghost use Rattle.model.specs.Calls.{parts};
+ghost use Rattle.model.specs.Parts.{IsPart, parts_left};
 
-use crate::part::Part;
+use crate::part::{Part, Parts, UnknownPart};
 
-impl Part {
-    // The part of this number, if there is one.
-    pub fn of(number: u16) -> Option<Part>
-        ensures { option_map (λ p. p.number) result ≡ (if nat_lt number parts then Some number else None) }
-    {
+// The part of this number, if there is one.
+impl TryFrom<u16> for Part {
+    type Error = UnknownPart;
+
+    ghost try_from_gives = { IsPart };
+
+    fn try_from(number: u16) -> Result<Part, UnknownPart> {
         if number < 8 {
-            Some(Part {
+            Ok(Part {
                 number: number as u8,
             })
         } else {
-            None
+            Err(UnknownPart)
         }
+    }
+}
+
+// The number of a part.
+impl From<Part> for u8 {
+    ghost from_gives = { λ p n. n ≡ p.number };
+
+    fn from(part: Part) -> u8 {
+        part.number
+    }
+}
+
+impl Part {
+    // The body, then the marked parts.
+    pub fn all() -> Parts
+        ensures { parts_left result ≡ range_with_len 0 parts }
+    {
+        Parts { next: 0 }
     }
 
     // The mask that has this part's bit alone.
@@ -31,5 +54,23 @@ impl Part {
         ensures { result ≡ bit self.now.number mask }
     {
         (mask >> self.number) % 2 == 1
+    }
+}
+
+impl Iterator for Parts {
+    type Item = Part;
+
+    ghost next_gives = { YieldsFirstBy (λ p. p.number) parts_left };
+
+    ghost remaining = { item_count parts_left };
+
+    fn next(&mut self) -> Option<Part> {
+        if self.next < 8 {
+            let part = Part { number: self.next };
+            self.next += 1;
+            Some(part)
+        } else {
+            None
+        }
     }
 }

@@ -1,25 +1,23 @@
-use Rattle.std.proofs.Common.{ap, ◌∙◌}
-use Rattle.complex.specs.Model.{lay_one}
-use Rattle.complex.specs.Simplex.{below, faces}
+use Rattle.std.proofs.Common.{◌≡◌, sym, ap, ◌∙◌, subst, refl, arith}
+use Rattle.complex.specs.Simplex.{faces}
+use Rattle.simplex.specs.FacesLeft.{faces_left}
 use Rattle.simplex.specs.Simplexes.{vertices}
-use Rattle.model.specs.Changes.{changed_on, room_for_next, room_goes_on}
+use Rattle.model.proofs.Facing.{Laying, laying_first, face_laid, face_there}
 use Rattle.model.proofs.faces.lay_faces.Goals as goal
 
-pub lay_face-requires : goal.lay_face-requires
-lay_face-requires g c =
-    let now = g.S.Store.contents c.loop-i.store in
-    let s = vertices c.args.s.now in
-    record {
-      range = ap (λ d. below d.range s) c.loop-i.invariant.0 ∙ c.requires.range;
-      room = λ f h z. room_for_next now.model now.limit (faces s) c.loop-i.i f c.loop-i.invariant.1 h z;
-    }
+pub loop-face-init : goal.loop-face-init
+loop-face-init g c =
+    let before = g.S.Store.contents c.args.store.now in
+    let s = c.args.s.now in
+    let all : faces_left c.into_iter-face-iterator.result ≡ faces (vertices s) = ap faces_left c.into_iter-face-iterator.ensures.into_iter_gives ∙ c.faces-face-items.ensures in
+    subst (Laying (vertices s) before before) (sym all) (laying_first (vertices s) before s.rising c.requires.room)
 
-pub loop-i-preserved : goal.loop-i-preserved
-loop-i-preserved g c =
-    let start = g.S.Store.contents c.args.store.now in
-    let now = g.S.Store.contents c.loop-i.store in
-    let then = g.S.Store.contents c.lay_face.new.store in
-    let fs = faces (vertices c.args.s.now) in (
-      changed_on lay_one start now then fs c.loop-i.i c.loop-i.invariant.0 c.lay_face.ensures,
-      room_goes_on now then fs c.loop-i.i (g.S.Store.stored c.loop-i.store).sorted c.lay_face.ensures c.loop-i.invariant.1,
-    )
+pub loop-face-preserved-then-look-eq0 : goal.loop-face-preserved-then-look-eq0
+loop-face-preserved-then-look-eq0 g c =
+    let on = subst (Laying (vertices c.args.s.now) (g.S.Store.contents c.args.store.now) (g.S.Store.contents c.loop-face.store)) c.in-Some.ensures.steps c.loop-face.invariant in
+    face_laid _ _ _ _ _ _ on (g.S.Store.stored c.loop-face.store).sorted c.requires.range (sym c.look.ensures ∙ c.if-look-eq0.true) c.put.ensures.after
+
+pub loop-face-preserved : goal.loop-face-preserved
+loop-face-preserved g c =
+    let on = subst (Laying (vertices c.args.s.now) (g.S.Store.contents c.args.store.now) (g.S.Store.contents c.loop-face.store)) c.in-Some.ensures.steps c.loop-face.invariant in
+    face_there _ _ _ _ _ _ on (g.S.Store.stored c.loop-face.store).sorted (omega (arith, c.look.ensures)) refl

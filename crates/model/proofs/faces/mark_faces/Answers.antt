@@ -1,16 +1,21 @@
-use Rattle.complex.specs.Model.{mark_one}
+use Rattle.std.proofs.Common.{◌≡◌, sym, ap, ◌∙◌, ap₂, subst}
+use lib.Bits.{bit_or}
 use Rattle.complex.specs.Simplex.{faces}
+use Rattle.simplex.specs.FacesLeft.{faces_left}
 use Rattle.simplex.specs.Simplexes.{vertices}
-use Rattle.model.specs.Changes.{changed_on, holds_on}
+use Rattle.model.proofs.Facing.{Marking, marking_first, face_marked}
 use Rattle.model.proofs.faces.mark_faces.Goals as goal
 
-pub loop-i-preserved : goal.loop-i-preserved
-loop-i-preserved g c =
-    let start = g.S.Store.contents c.args.store.now in
-    let now = g.S.Store.contents c.loop-i.store in
-    let then = g.S.Store.contents c.mark_face.new.store in
+pub loop-face-init : goal.loop-face-init
+loop-face-init g c =
+    let before = g.S.Store.contents c.args.store.now in
+    let s = c.args.s.now in
     let p = c.args.part.number in
-    let fs = faces (vertices c.args.s.now) in (
-      changed_on (mark_one p) start now then fs c.loop-i.i c.loop-i.invariant.0 c.mark_face.ensures,
-      λ q f. holds_on p now then fs c.loop-i.i q (g.S.Store.stored c.loop-i.store).sorted c.mark_face.ensures (c.loop-i.invariant.1 q f),
-    )
+    let all : faces_left c.into_iter-face-iterator.result ≡ faces (vertices s) = ap faces_left c.into_iter-face-iterator.ensures.into_iter_gives ∙ c.faces-face-items.ensures in
+    subst (Marking p (vertices s) before before) (sym all) (marking_first p (vertices s) before s.rising c.requires.held)
+
+pub loop-face-preserved : goal.loop-face-preserved
+loop-face-preserved g c =
+    let p = c.args.part.number in
+    let on = subst (Marking p (vertices c.args.s.now) (g.S.Store.contents c.args.store.now) (g.S.Store.contents c.loop-face.store)) c.in-Some.ensures.steps c.loop-face.invariant in
+    face_marked p _ _ _ _ _ _ _ on (g.S.Store.stored c.loop-face.store).sorted c.requires.range (ap₂ bit_or c.look.ensures c.mask.ensures) c.put.ensures.after

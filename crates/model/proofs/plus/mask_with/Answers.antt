@@ -1,6 +1,6 @@
 use Rattle.complex.specs.Simplex.{plus}
 use Rattle.simplex.specs.Simplexes.{vertices_or_none}
-use Rattle.model.proofs.Bases.{five_absent}
+use Rattle.model.proofs.Ahead.{five_absent}
 use Rattle.history.proofs.Fitted.{fits_shaped}
 use Rattle.model.proofs.plus.mask_with.Goals as goal
 
