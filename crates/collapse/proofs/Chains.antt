@@ -6,7 +6,8 @@ use Rattle.complex.specs.Model.{Model, mask, In}
 use Rattle.complex.specs.Simplex.{has, plus, Rising}
 use Rattle.complex.proofs.Masks.{bit_holds}
 use Rattle.collapse.specs.Image.{image, moved}
-use Rattle.collapse.specs.Pieces.{Joined, here, step, OnePiece}
+use Rattle.order.specs.Chain.{here, step}
+use Rattle.collapse.specs.Pieces.{Joined, OnePiece}
 use Rattle.collapse.specs.PieceLaws.{Step, CollapseKeepsPieces}
 use Rattle.collapse.proofs.Vertices.{plus_rising, plus_some, has_plus, has_image, image_rising, same_has, plus_comm}
 

@@ -2,8 +2,6 @@
 ghost use Rattle.collapse.specs.Extended.{ExtendedLink};
 
 // With the edge held, the link conditions of the body and all parts are one condition in the extended complex.
-pub fn extended_link() -> u8
+pub fn extended_link()
     ensures { ExtendedLink }
-{
-    0
-}
+{}

@@ -2,15 +2,11 @@
 ghost use Rattle.collapse.specs.PieceLaws.{CollapseKeepsPieces, TracesKeepPieces};
 
 // A collapse keeps the pieces of each part.
-pub fn collapse_keeps_pieces() -> u8
+pub fn collapse_keeps_pieces()
     ensures { CollapseKeepsPieces }
-{
-    0
-}
+{}
 
 // A list of collapses keeps them, along the trace.
-pub fn traces_keep_pieces() -> u8
+pub fn traces_keep_pieces()
     ensures { TracesKeepPieces }
-{
-    0
-}
+{}

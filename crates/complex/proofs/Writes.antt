@@ -8,7 +8,7 @@ use Rattle.complex.specs.Model.{Model, mask, present, write, Sorted}
 use Rattle.complex.specs.Simplex.{colex}
 use Rattle.complex.proofs.Order.{colex_lawful, colex_exact}
 
-value_present : (m : ℕ) → unwrap_or (present m) 0 ≡ m
+pub value_present : (m : ℕ) → unwrap_or (present m) 0 ≡ m
 value_present zero = refl
 value_present (suc m) = ap (λ b. unwrap_or (cond b None (Some (suc m))) 0) (ne_eqb (suc m) 0 (omega arith))
 

@@ -1,4 +1,4 @@
-pub mod Takings
+pub mod Sizes
 pub mod Pairs
 pub mod Written
 pub mod Readable

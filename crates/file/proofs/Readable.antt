@@ -6,9 +6,11 @@ use Rattle.std.proofs.ByRecursion.{All-take, All-drop}
 use Rattle.std.proofs.lemmas.Bool.{leb-true, leb-false, cond-true, cond-false, and_parts}
 use Rattle.file.specs.declared.entry.Site.{Site}
 use Rattle.file.specs.declared.flaw.Flaw.{Flaw}
-use Rattle.file.specs.Entry.{Content, section_count}
+use Rattle.file.specs.declared.section.Section.{Section}
+use Rattle.file.specs.Entry.{Content, section_of, section_count}
+use Rattle.file.proofs.Sizes.{sized_plain, counted, sized_counted}
 use Rattle.file.specs.Numbers.{pairs}
-use Rattle.file.specs.Outcome.{Outcome, cut_off, first_counted, first_entry, site_at, onward, entries, sections}
+use Rattle.file.specs.Outcome.{Outcome, cut_off, first_entry, site_at, onward, entries, sections}
 use Rattle.file.specs.Format.{vertices_written, entry_written, sections_written, EntryFits, SectionsFit, Bytes, Unflawed, ReadsOnlyFiles}
 
 -- an even number of bytes are the vertices that they make
@@ -47,16 +49,16 @@ abbrev IsOk : Result (Content × List ℕ) Flaw → Type 0
 IsOk (Ok x) = Unit {0}
 IsOk (Err f) = ⊥
 
-cut_off_front : (s : ℕ) (bs : List ℕ) (k : ℕ) → Bytes bs → IsOk (cut_off s bs (2 * k)) → Front k bs (after (cut_off s bs (2 * k)))
-cut_off_front s bs k small ok = go (leb (2 * k) (length bs)) refl
+cut_off_front : (k : Section) (n : ℕ) (bs : List ℕ) → Bytes bs → IsOk (cut_off k (Ok (n, bs))) → Front n bs (after (cut_off k (Ok (n, bs))))
+cut_off_front k n bs small ok = go (leb (2 * n) (length bs)) refl
   where
-    go : (b : Bool) → leb (2 * k) (length bs) ≡ b → Front k bs (after (cut_off s bs (2 * k)))
+    go : (b : Bool) → leb (2 * n) (length bs) ≡ b → Front n bs (after (cut_off k (Ok (n, bs))))
     go true e =
-        let long = length-take-le (2 * k) bs (leb-true (2 * k) (length bs) e) in
-        let some = All-take _ (2 * k) bs small in
-        let r : after (cut_off s bs (2 * k)) ≡ drop (2 * k) bs = ap after (cond-true _ _ _ e) in
-        let w = written_pairs (take (2 * k) bs) k some long in
-        record { vs = pairs (take (2 * k) bs); many = length_pairs (take (2 * k) bs) k long; narrow = pairs_narrow (take (2 * k) bs) some; whole = (λ d. w d ++ r d) ∙ take-append-drop (2 * k) bs }
+        let long = length-take-le (2 * n) bs (leb-true (2 * n) (length bs) e) in
+        let some = All-take _ (2 * n) bs small in
+        let r : after (cut_off k (Ok (n, bs))) ≡ drop (2 * n) bs = ap after (cond-true _ _ _ e) in
+        let w = written_pairs (take (2 * n) bs) n some long in
+        record { vs = pairs (take (2 * n) bs); many = length_pairs (take (2 * n) bs) n long; narrow = pairs_narrow (take (2 * n) bs) some; whole = (λ d. w d ++ r d) ∙ take-append-drop (2 * n) bs }
     go false e = absurd (subst IsOk (cond-false _ _ _ e) ok)
 
 -- an entry at the front of the bytes of section s, and the bytes after it
@@ -65,14 +67,14 @@ record EntryFront (s : ℕ) (bs rest : List ℕ) : Type 0 where
   fits : EntryFits s vs
   whole : entry_written s vs ++ rest ≡ bs
 
-counted_front : (s : ℕ) (bs : List ℕ) → leb s 4 ≡ false → Bytes bs → IsOk (first_counted s bs) → EntryFront s bs (after (first_counted s bs))
-counted_front s [] part small ok = absurd ok
-counted_front s (n ∷ bs) part small ok = go (leb 1 n && leb n 4) refl
+counted_front : (s : ℕ) (k : Section) (bs : List ℕ) → leb s 4 ≡ false → Bytes bs → IsOk (cut_off k (counted bs)) → EntryFront s bs (after (cut_off k (counted bs)))
+counted_front s k [] part small ok = absurd ok
+counted_front s k (n ∷ bs) part small ok = go (leb 1 n && leb n 4) refl
   where
-    go : (b : Bool) → (leb 1 n && leb n 4) ≡ b → EntryFront s (n ∷ bs) (after (first_counted s (n ∷ bs)))
+    go : (b : Bool) → (leb 1 n && leb n 4) ≡ b → EntryFront s (n ∷ bs) (after (cut_off k (counted (n ∷ bs))))
     go true e =
-        let is : first_counted s (n ∷ bs) ≡ cut_off s bs (2 * n) = cond-true _ _ _ e in
-        let f = cut_off_front s bs n small.1 (subst IsOk is ok) in
+        let is : cut_off k (counted (n ∷ bs)) ≡ cut_off k (Ok (n, bs)) = ap (cut_off k) (cond-true _ _ _ e) in
+        let f = cut_off_front k n bs small.1 (subst IsOk is ok) in
         let both = and_parts (leb 1 n) (leb n 4) e in
         let low = leb-true 1 n both.0 in
         let high = leb-true n 4 both.1 in
@@ -81,23 +83,27 @@ counted_front s (n ∷ bs) part small ok = go (leb 1 n && leb n 4) refl
         let w : entry_written s f.vs ≡ n ∷ vertices_written f.vs = cond-false _ _ _ part ∙ ap (λ m. m ∷ vertices_written f.vs) f.many in
         let r = ap after is in
         record { vs = f.vs; fits = record { plain = λ h. absurd (omega arith); low = omega arith; high = omega arith; narrow = f.narrow }; whole = (λ d. w d ++ r d) ∙ ap (λ l. n ∷ l) f.whole }
-    go false e = absurd (subst IsOk (cond-false _ _ _ e) ok)
+    go false e = absurd (subst IsOk (ap (cut_off k) (cond-false _ _ _ e)) ok)
 
-first_front : (s : ℕ) (bs : List ℕ) → 1 ≤ s → Bytes bs → IsOk (first_entry s bs) → EntryFront s bs (after (first_entry s bs))
+first_front : (s : ℕ) (bs : List ℕ) → 1 ≤ s → Bytes bs → IsOk (first_entry (section_of s) bs) → EntryFront s bs (after (first_entry (section_of s) bs))
 first_front s bs begun small ok = go (leb s 4) refl
   where
-    go : (b : Bool) → leb s 4 ≡ b → EntryFront s bs (after (first_entry s bs))
+    k : Section
+    k = section_of s
+
+    go : (b : Bool) → leb s 4 ≡ b → EntryFront s bs (after (first_entry k bs))
     go true e =
-        let is : first_entry s bs ≡ cut_off s bs (2 * (5 - s)) = cond-true _ _ _ e in
-        let f = cut_off_front s bs (5 - s) small (subst IsOk is ok) in
         let low = leb-true s 4 e in
+        let is : first_entry k bs ≡ cut_off k (Ok (5 - s, bs)) = ap (cut_off k) (sized_plain s bs begun low) in
+        let f = cut_off_front k (5 - s) bs small (subst IsOk is ok) in
         let many = f.many in
         let w : entry_written s f.vs ≡ vertices_written f.vs = cond-true _ _ _ e in
         let r = ap after is in
         record { vs = f.vs; fits = record { plain = λ h. f.many; low = omega arith; high = omega arith; narrow = f.narrow }; whole = (λ d. w d ++ r d) ∙ f.whole }
     go false e =
-        let is : first_entry s bs ≡ first_counted s bs = cond-false _ _ _ e in
-        subst (λ r. EntryFront s bs (after r)) (sym is) (counted_front s bs e small (subst IsOk is ok))
+        let far = leb-false s 4 e in
+        let is : first_entry k bs ≡ cut_off k (counted bs) = ap (cut_off k) (sized_counted s bs (omega arith)) in
+        subst (λ r. EntryFront s bs (after r)) (sym is) (counted_front s k bs e small (subst IsOk is ok))
 
 -- n entries at the front of the bytes of section s, and then bytes of which `go` makes no flaw
 record EntriesFront (s n : ℕ) (go : List ℕ → List Outcome) (bs : List ℕ) : Type 0 where
@@ -132,9 +138,9 @@ onward_sound site (Err f) go sound = absurd sound
 entries_front : (size s n i : ℕ) (go : List ℕ → List Outcome) (bs : List ℕ) → 1 ≤ s → Bytes bs → Unflawed (entries size s n i go bs) → EntriesFront s n go bs
 entries_front size s zero i go bs begun small sound = record { es = []; rest = bs; many = refl; fit = tt; whole = refl; small = small; sound = sound }
 entries_front size s (suc n) i go bs begun small sound =
-    let both = onward_sound (site_at size s i bs) (first_entry s bs) (entries size s n (i + 1) go) sound in
+    let both = onward_sound (site_at size s i bs) (first_entry (section_of s) bs) (entries size s n (i + 1) go) sound in
     let f = first_front s bs begun small both.0 in
-    let rest = after (first_entry s bs) in
+    let rest = after (first_entry (section_of s) bs) in
     one_more_front s n go bs rest f (entries_front size s n (i + 1) go rest begun (end_small (entry_written s f.vs) rest bs f.whole small) both.1)
 
 -- the sections from s on, of which the bytes are made

@@ -3,8 +3,10 @@ use Rattle.std.proofs.Common.{◌≡◌, ℕ, suc, ◌+◌, ◌-◌, ◌*◌, �
 use Rattle.std.specs.List.{flat_map, AllByRecursion}
 use Rattle.std.proofs.lemmas.List.{append_assoc, take_at, drop_at, take_all}
 use Rattle.std.proofs.ByRecursion.{All-append}
-use Rattle.std.proofs.lemmas.Bool.{le-leb, leb-true, cond-true, cond-false, and_from}
-use Rattle.file.specs.Entry.{in_section, section_count}
+use Rattle.std.proofs.lemmas.Bool.{le-leb, leb-true, leb-false, cond-true, cond-false, and_from}
+use Rattle.file.specs.declared.section.Section.{Section}
+use Rattle.file.specs.Entry.{entry_in, in_section, section_of, section_count}
+use Rattle.file.proofs.Sizes.{sized_plain, sized_counted}
 use Rattle.file.specs.Numbers.{pairs}
 use Rattle.file.specs.Outcome.{Outcome, found, cut_off, first_entry, onward, entries, sections}
 use Rattle.file.specs.Format.{two_bytes, vertices_written, entry_written, section_written, sections_written, bytes_of, EntryFits, SectionsFit, Bytes, entries_placed, sections_placed, ReadsWhatIsWritten, ReadsVertices}
@@ -23,27 +25,33 @@ length_written : (vs : List ℕ) → length (vertices_written vs) ≡ 2 * length
 length_written [] = refl
 length_written (v ∷ vs) = let ih = length_written vs in omega arith
 
-cut_off_written : (s : ℕ) (vs rest : List ℕ) (n : ℕ) → n ≡ 2 * length vs → cut_off s (vertices_written vs ++ rest) n ≡ Ok (in_section s (vertices_written vs), rest)
-cut_off_written s vs rest n is =
+cut_off_written : (k : Section) (vs rest : List ℕ) (n : ℕ) → n ≡ length vs → cut_off k (Ok (n, vertices_written vs ++ rest)) ≡ Ok (entry_in k (vertices_written vs), rest)
+cut_off_written k vs rest n is =
     let long = length_written vs in
-    let e : length (vertices_written vs) ≡ n = omega arith in
-    let fits : n ≤ length (vertices_written vs ++ rest) = omega (arith, length-append (vertices_written vs) rest) in
-    let t = take_at (vertices_written vs) rest n e in
-    let r = drop_at (vertices_written vs) rest n e in
-    cond-true _ _ _ (le-leb n (length (vertices_written vs ++ rest)) fits) ∙ (λ d. Ok (in_section s (t d), r d))
+    let e : length (vertices_written vs) ≡ 2 * n = omega arith in
+    let fits : 2 * n ≤ length (vertices_written vs ++ rest) = omega (arith, length-append (vertices_written vs) rest) in
+    let t = take_at (vertices_written vs) rest (2 * n) e in
+    let r = drop_at (vertices_written vs) rest (2 * n) e in
+    cond-true _ _ _ (le-leb (2 * n) (length (vertices_written vs ++ rest)) fits) ∙ (λ d. Ok (entry_in k (t d), r d))
 
 -- an entry that was written is the first that is read
-first_written : (s : ℕ) (vs rest : List ℕ) → EntryFits s vs → first_entry s (entry_written s vs ++ rest) ≡ Ok (in_section s (vertices_written vs), rest)
+first_written : (s : ℕ) (vs rest : List ℕ) → EntryFits s vs → first_entry (section_of s) (entry_written s vs ++ rest) ≡ Ok (in_section s (vertices_written vs), rest)
 first_written s vs rest fits = go (leb s 4) refl
   where
-    go : (b : Bool) → leb s 4 ≡ b → first_entry s (entry_written s vs ++ rest) ≡ Ok (in_section s (vertices_written vs), rest)
+    k : Section
+    k = section_of s
+
+    go : (b : Bool) → leb s 4 ≡ b → first_entry k (entry_written s vs ++ rest) ≡ Ok (entry_in k (vertices_written vs), rest)
     go true e =
         let w : entry_written s vs ≡ vertices_written vs = cond-true _ _ _ e in
-        let size : 2 * (5 - s) ≡ 2 * length vs = omega (arith, fits.plain (leb-true s 4 e)) in
-        ap (λ l. first_entry s (l ++ rest)) w ∙ cond-true _ _ _ e ∙ cut_off_written s vs rest (2 * (5 - s)) size
+        let low = leb-true s 4 e in
+        let size : 5 - s ≡ length vs = omega (arith, fits.plain low) in
+        ap (λ l. first_entry k (l ++ rest)) w ∙ ap (cut_off k) (sized_plain s (vertices_written vs ++ rest) (omega arith) low) ∙ cut_off_written k vs rest (5 - s) size
     go false e =
         let w : entry_written s vs ≡ length vs ∷ vertices_written vs = cond-false _ _ _ e in
-        ap (λ l. first_entry s (l ++ rest)) w ∙ cond-false _ _ _ e ∙ cond-true _ _ _ (and_from _ _ (le-leb 1 (length vs) (omega arith)) (le-leb (length vs) 4 (omega arith))) ∙ cut_off_written s vs rest (2 * length vs) refl
+        let far = leb-false s 4 e in
+        let some = cond-true _ _ _ (and_from _ _ (le-leb 1 (length vs) (omega arith)) (le-leb (length vs) 4 (omega arith))) in
+        ap (λ l. first_entry k (l ++ rest)) w ∙ ap (cut_off k) (sized_counted s (length vs ∷ vertices_written vs ++ rest) (omega arith) ∙ some) ∙ cut_off_written k vs rest (length vs) refl
 
 -- the entries that were written are read, and then what comes after them
 entries_read : (size s i p : ℕ) (go : List ℕ → List Outcome) (es : List (List ℕ)) (rest : List ℕ) → AllByRecursion (EntryFits s) es → p + length (flat_map (entry_written s) es ++ rest) ≡ size → entries size s (length es) i go (flat_map (entry_written s) es ++ rest) ≡ entries_placed s i p es ++ go rest
@@ -54,7 +62,7 @@ entries_read size s i p go (vs ∷ es) rest fits at =
     let all = ap length split in
     let here : size - length ((entry_written s vs ++ flat_map (entry_written s) es) ++ rest) ≡ p = omega arith in
     let next : p + length (entry_written s vs) + length (flat_map (entry_written s) es ++ rest) ≡ size = omega arith in
-    let first = ap (first_entry s) split ∙ first_written s vs (flat_map (entry_written s) es ++ rest) fits.0 in
+    let first = ap (first_entry (section_of s)) split ∙ first_written s vs (flat_map (entry_written s) es ++ rest) fits.0 in
     let ih = entries_read size s (i + 1) (p + length (entry_written s vs)) go es rest fits.1 next in
     (λ d. onward (record { section = s; entry = i; place = here d }) (first d) (entries size s (length es) (i + 1) go)) ∙ ap (λ l. found (record { section = s; entry = i; place = p }) (in_section s (vertices_written vs)) ∷ l) ih
 

@@ -4,6 +4,8 @@ use Rattle.std.specs.Borrow.{Bor}
 use Rattle.file.specs.declared.entry.Entry.{Entry}
 use Rattle.file.specs.declared.entry.Entry.TheVariants.{Tetrahedron, Triangle, Wire, Point, Marked}
 use Rattle.file.specs.declared.flaw.Flaw.{Flaw}
+use Rattle.file.specs.declared.section.Section.{Section}
+use Rattle.file.specs.declared.section.Section.TheVariants.{Tetrahedra, Triangles, Wires, Points, Part}
 
 -- how many sections a file has: four, and one for each part
 abbrev pub section_count : ℕ
@@ -34,8 +36,25 @@ vertex_bytes (point bs) = bs
 vertex_bytes (marked p bs) = bs
 
 -- sections 1 to 4 hold tetrahedra, dangling triangles, wire edges and lone points, the next ones the parts from 1 on
+abbrev pub section_of : ℕ → Section
+section_of s = cond (s == 1) Tetrahedra (cond (s == 2) Triangles (cond (s == 3) Wires (cond (s == 4) Points (Part (s - 4)))))
+
+-- the entry of a section that has these vertices
+abbrev pub entry_in : Section → List ℕ → Content
+entry_in Tetrahedra bs = tetrahedron bs
+entry_in Triangles bs = triangle bs
+entry_in Wires bs = wire bs
+entry_in Points bs = point bs
+entry_in (Part p) bs = marked p bs
+
+-- the same by the number of the section
 abbrev pub in_section : ℕ → List ℕ → Content
-in_section s bs = cond (s == 1) (tetrahedron bs) (cond (s == 2) (triangle bs) (cond (s == 3) (wire bs) (cond (s == 4) (point bs) (marked (s - 4) bs))))
+in_section s bs = entry_in (section_of s) bs
+
+-- a number of vertices with the bytes after it, or a flaw
+abbrev pub measured : Result (ℕ × Bor (List ℕ)) Flaw → Result (ℕ × List ℕ) Flaw
+measured (Ok x) = Ok (x.0, x.1.now)
+measured (Err f) = Err f
 
 -- an entry with the bytes after it, or a flaw
 abbrev pub read : Result (Entry × Bor (List ℕ)) Flaw → Result (Content × List ℕ) Flaw

@@ -22,9 +22,6 @@ abbrev pub file_number : FileRefusal → ℕ
 file_number Occupied = 29
 file_number (At s) = cause_number s.cause
 
-abbrev pub stopped_at : Site → Cause → Stopped
-stopped_at site cause = record { section = site.section; entry = site.entry; place = site.place; cause = cause }
-
 -- the vertices of an entry, from their bytes
 abbrev pub vertices_of : List ℕ → List ℕ
 vertices_of bs = take 4 (pairs bs)
@@ -47,13 +44,13 @@ entry_next c (marked p bs) = marked_with c p (vertices_of bs)
 -- a refused entry stops the load, at its site
 abbrev pub unless_refused : {A : Type 0} → Site → Result ℕ ModelRefusal → Result A Stopped → Result A Stopped
 unless_refused site (Ok n) go = go
-unless_refused site (Err e) go = Err (stopped_at site (Model e))
+unless_refused site (Err e) go = Err (record { site = site; cause = Model e })
 
 -- what is held after the entries were taken in order, or where and why that stopped
 abbrev pub loaded : Contents → List Outcome → Result Contents Stopped
 loaded c [] = Ok c
 loaded c (found site x ∷ os) = unless_refused site (entry_answer c x) (loaded (entry_next c x) os)
-loaded c (broken site f ∷ os) = Err (stopped_at site (Flaw f))
+loaded c (broken site f ∷ os) = Err (record { site = site; cause = Flaw f })
 
 abbrev pub held_or_stopped : Result Contents Stopped → Result ℕ FileRefusal
 held_or_stopped (Ok d) = Ok (length d.model)
@@ -70,11 +67,6 @@ load_answer c bytes = cond (length c.model == 0) (held_or_stopped (loaded c (out
 
 abbrev pub load_next : Contents → List ℕ → Contents
 load_next c bytes = cond (length c.model == 0) (kept_or_emptied c (loaded c (outcomes bytes))) c
-
--- a step of a load: what it answers, and what is held after it
-abbrev pub Taken : Contents → Outcome → Result (Unit {0}) Stopped → Contents → Type 0
-Taken c (found site x) r d = (r ≡ unless_refused site (entry_answer c x) (Ok tt)) × (d ≡ entry_next c x)
-Taken c (broken site f) r d = (r ≡ Err (stopped_at site (Flaw f))) × (d ≡ c)
 
 -- all steps of a load: what is held, or where and why it stopped
 abbrev pub TakenAll : Result Contents Stopped → Result (Unit {0}) Stopped → Contents → Type 0

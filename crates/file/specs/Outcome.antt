@@ -3,7 +3,9 @@ use Rattle.std.specs.Prelude.{ℕ, zero, suc, ◌+◌, ◌-◌, ◌*◌, cond, �
 use Rattle.file.specs.declared.entry.Site.{Site}
 use Rattle.file.specs.declared.flaw.Flaw.{Flaw}
 use Rattle.file.specs.declared.flaw.Flaw.TheVariants.{Ends, Spare, Vertices}
-use Rattle.file.specs.Entry.{Content, in_section, section_count}
+use Rattle.file.specs.declared.section.Section.{Section}
+use Rattle.file.specs.declared.section.Section.TheVariants.{Tetrahedra, Triangles, Wires, Points, Part}
+use Rattle.file.specs.Entry.{Content, entry_in, section_of, section_count}
 
 -- an entry or a flaw, and where it stands
 pub data Outcome : Type 0 where
@@ -16,18 +18,23 @@ number_of Vertices = 2
 number_of Ends = 6
 number_of Spare = 7
 
--- the entry whose vertices are the first n bytes, and the bytes after it
-abbrev pub cut_off : ℕ → List ℕ → ℕ → Result (Content × List ℕ) Flaw
-cut_off s bs n = cond (nat_le n (length bs)) (Ok (in_section s (take n bs), drop n bs)) (Err Ends)
+-- how many vertices the first entry has, and the bytes from the first vertex on: 4, 3, 2, 1 vertices in the first four sections; an entry of a part begins with one byte n, 1 to 4, and has n
+abbrev pub sized : Section → List ℕ → Result (ℕ × List ℕ) Flaw
+sized Tetrahedra bs = Ok (4, bs)
+sized Triangles bs = Ok (3, bs)
+sized Wires bs = Ok (2, bs)
+sized Points bs = Ok (1, bs)
+sized (Part p) [] = Err Ends
+sized (Part p) (n ∷ bs) = cond (nat_le 1 n && nat_le n 4) (Ok (n, bs)) (Err Vertices)
 
--- in a part: one byte n, 1 to 4, then n vertices of two bytes
-abbrev pub first_counted : ℕ → List ℕ → Result (Content × List ℕ) Flaw
-first_counted s [] = Err Ends
-first_counted s (n ∷ bs) = cond (nat_le 1 n && nat_le n 4) (cut_off s bs (2 * n)) (Err Vertices)
+-- the entry of these vertices, two bytes each, and the bytes after it
+abbrev pub cut_off : Section → Result (ℕ × List ℕ) Flaw → Result (Content × List ℕ) Flaw
+cut_off k (Ok x) = cond (nat_le (2 * x.0) (length x.1)) (Ok (entry_in k (take (2 * x.0) x.1), drop (2 * x.0) x.1)) (Err Ends)
+cut_off k (Err f) = Err f
 
--- the first entry of section s: in sections 1 to 4 it is 4, 3, 2, 1 vertices
-abbrev pub first_entry : ℕ → List ℕ → Result (Content × List ℕ) Flaw
-first_entry s bs = cond (nat_le s 4) (cut_off s bs (2 * (5 - s))) (first_counted s bs)
+-- the first entry of a section
+abbrev pub first_entry : Section → List ℕ → Result (Content × List ℕ) Flaw
+first_entry k bs = cut_off k (sized k bs)
 
 -- section, entry and first byte, where the bytes are the last of a file of that size
 abbrev pub site_at : ℕ → ℕ → ℕ → List ℕ → Site
@@ -41,7 +48,7 @@ onward site (Err f) go = broken site f ∷ []
 -- n entries of section s, from entry i on, and then what `go` makes of the bytes after them
 abbrev pub entries : ℕ → ℕ → ℕ → ℕ → (List ℕ → List Outcome) → List ℕ → List Outcome
 entries size s zero i go bs = go bs
-entries size s (suc n) i go bs = onward (site_at size s i bs) (first_entry s bs) (entries size s n (i + 1) go)
+entries size s (suc n) i go bs = onward (site_at size s i bs) (first_entry (section_of s) bs) (entries size s n (i + 1) go)
 
 -- the last k sections, each after its count; n entries were in the section before them
 abbrev pub sections : ℕ → ℕ → ℕ → List ℕ → List Outcome

@@ -1,5 +1,5 @@
 -- What a reader has still to hand out, and what its steps hand out.
-use Rattle.std.specs.Prelude.{◌≡◌, ◌+◌, ◌-◌, ◌<◌, Bool, true, false, List, [], ◌∷◌, Some, None, Ok, Err, Option, Result}
+use Rattle.std.specs.Prelude.{◌≡◌, ◌+◌, ◌-◌, List, [], ◌∷◌, Some, None, Ok, Err, Option, Result}
 use Rattle.file.specs.declared.entry.Placed.{Placed}
 use Rattle.file.specs.declared.flaw.Flawed.{Flawed}
 use Rattle.file.specs.declared.reader.Reader.{Reader}
@@ -15,17 +15,16 @@ abbrev pub told : Result Placed Flawed → Outcome
 told (Ok p) = found p.site (content p.entry)
 told (Err f) = broken f.site f.flaw
 
--- of what was to come an answer is the first, and the rest is still to come
-abbrev pub Takes : List Outcome → Result Placed Flawed → List Outcome → Type 0
-Takes before r after = before ≡ told r ∷ after
+-- of what was to come an entry is the first, and the rest is still to come
+abbrev pub Finds : List Outcome → Placed → List Outcome → Type 0
+Finds before p after = before ≡ found p.site (content p.entry) ∷ after
 
--- what `next` answers: nothing if nothing was to come, else the first of it
-abbrev pub Hands : List Outcome → Option (Result Placed Flawed) → List Outcome → Type 0
-Hands before None after = (before ≡ []) × (after ≡ [])
-Hands before (Some r) after = Takes before r after
+-- a flaw is all that was to come
+abbrev pub EndsIn : List Outcome → Flawed → Type 0
+EndsIn before f = before ≡ broken f.site f.flaw ∷ []
 
--- an entry stands next, nothing is to come, or a flaw was met, after which nothing comes
-abbrev pub Settles : List Outcome → Result Bool Flawed → Reader → Type 0
-Settles before (Ok true) r = (before ≡ to_come r) × (0 < r.left)
-Settles before (Ok false) r = (before ≡ []) × (to_come r ≡ [])
-Settles before (Err f) r = (before ≡ broken f.site f.flaw ∷ []) × (to_come r ≡ [])
+-- an entry was the first that was to come, nothing was to come, or a flaw was all
+abbrev pub Steps : List Outcome → Result (Option Placed) Flawed → List Outcome → Type 0
+Steps before (Ok (Some p)) after = Finds before p after
+Steps before (Ok None) after = (before ≡ []) × (after ≡ [])
+Steps before (Err f) after = EndsIn before f

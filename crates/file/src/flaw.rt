@@ -4,7 +4,7 @@ ghost use Rattle.file.specs.Outcome.{number_of};
 
 use crate::entry::Site;
 
-#[derive(Clone, Copy)]
+#[derive(Debug, Clone, Copy, PartialEq, Eq)]
 pub enum Flaw {
     // the file ends inside a count or an entry
     Ends,
@@ -14,18 +14,19 @@ pub enum Flaw {
     Vertices,
 }
 
-#[derive(Clone, Copy)]
+// A flaw and where it stands.
+#[derive(Debug, Clone, Copy, PartialEq, Eq)]
 pub struct Flawed {
     pub site: Site,
     pub flaw: Flaw,
 }
 
-impl Flaw {
-    // The number by which a refusal is told.
-    pub fn number(&self) -> u8
-        ensures { result ≡ number_of self.now }
-    {
-        match self {
+// The number by which a refusal is told.
+impl From<Flaw> for u8 {
+    ghost from_gives = { λ flaw number. number ≡ number_of flaw };
+
+    fn from(flaw: Flaw) -> u8 {
+        match flaw {
             Flaw::Vertices => 2,
             Flaw::Ends => 6,
             Flaw::Spare => 7,

@@ -8,4 +8,5 @@ pub mod law;
 pub mod load;
 pub mod reader;
 pub mod refusal;
+mod section;
 pub mod vertices;

@@ -4,12 +4,12 @@ ghost use Rattle.file.specs.Entry.{section_count};
 
 pub mod steps;
 
-#[derive(Clone, Copy)]
+#[derive(Debug, Clone, Copy)]
 pub struct Reader<'a> {
     rest: &'a [u8],
     // the file's length
     size: usize,
-    // the section that has begun, 0 before the first
+    // the number of the section that has begun, 0 before the first
     section: u8,
     // the section's entry that is to come, and how many are left
     entry: u16,

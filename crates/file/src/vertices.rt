@@ -1,12 +1,21 @@
 // The vertices of an entry, as numbers.
-ghost use Rattle.std.specs.Prelude.{◌≡◌, ◌≤◌, length};
+ghost use Rattle.std.specs.Prelude.{◌≡◌, take};
+ghost use Rattle.file.specs.Numbers.{pairs};
 
-pub mod decode;
+use arrayvec::ArrayVec;
 
-#[derive(Clone, Copy)]
-pub struct Vertices {
-    numbers: [u16; 4],
-    count: usize,
-    ghost room: { length numbers ≡ 4 },
-    ghost few: { count ≤ 4 },
+// The first four pairs of bytes, each the high byte first; a last odd byte is passed over.
+pub fn vertices(bytes: &[u8]) -> ArrayVec<u16, 4>
+    ensures { result.items ≡ take 4 (pairs bytes.now) }
+{
+    let mut numbers = ArrayVec::new();
+    let mut rest = bytes;
+    while let [hi, lo, more @ ..] = rest {
+        if numbers.is_full() {
+            break;
+        }
+        numbers.push(u16::from_be_bytes([*hi, *lo]));
+        rest = more;
+    }
+    numbers
 }

@@ -4,7 +4,7 @@
 #[cfg(test)]
 mod tests {
     use file::reader::Reader;
-    use file::vertices::Vertices;
+    use file::vertices::vertices;
 
     // What comes first: the flaw's number, or 0 at an entry, then section, entry and place.
     fn first(file: &[u8]) -> Option<(u8, u8, u16, usize)> {
@@ -18,7 +18,7 @@ mod tests {
                 placed.site.place,
             )),
             Some(Err(flawed)) => Some((
-                flawed.flaw.number(),
+                u8::from(flawed.flaw),
                 flawed.site.section,
                 flawed.site.entry,
                 flawed.site.place,
@@ -61,6 +61,6 @@ mod tests {
     #[test]
     fn a_point_is_found_at_its_place(rt: HostRuntime) {
         assert_eq!(rt; first(&[0, 0, 0, 0, 0, 0, 0, 1, 16, 5]), Some((0, 4, 0, 8)));
-        assert_eq!(rt; Vertices::of(&[16, 5]).as_slice(), [4101].as_slice());
+        assert_eq!(rt; vertices(&[16, 5]).as_slice(), [4101].as_slice());
     }
 }

@@ -4,22 +4,16 @@
 ghost use Rattle.history.specs.Laws.{SoundKeepsPromise, AcceptedStands, RecordsTrace};
 
 // A sound model keeps the whole promise against its first model.
-pub fn sound_keeps_promise() -> u8
+pub fn sound_keeps_promise()
     ensures { SoundKeepsPromise }
-{
-    0
-}
+{}
 
 // A collapse that is accepted and recorded can be taken back, and leaves the model sound.
-pub fn accepted_stands() -> u8
+pub fn accepted_stands()
     ensures { AcceptedStands }
-{
-    0
-}
+{}
 
 // The records trace a vertex as the standing list does, and tell which vertices the first model had.
-pub fn records_trace() -> u8
+pub fn records_trace()
     ensures { RecordsTrace }
-{
-    0
-}
+{}

@@ -34,10 +34,10 @@ mod tests {
             Err(refusal) => match refusal {
                 FileRefusal::Occupied => [29, 0, 0, 0],
                 FileRefusal::At(stopped) => [
-                    stopped.cause.number() as usize,
-                    stopped.section as usize,
-                    stopped.entry as usize,
-                    stopped.place,
+                    usize::from(u8::from(stopped.cause)),
+                    usize::from(stopped.site.section),
+                    usize::from(stopped.site.entry),
+                    stopped.site.place,
                 ],
             },
         }

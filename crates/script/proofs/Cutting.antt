@@ -1,7 +1,9 @@
 -- Bytes cut at the first of a kind.
-use Rattle.std.proofs.Common.{◌≡◌, ℕ, zero, suc, ◌-◌, ◌<◌, ◌≤◌, Bool, true, false, cond, eqb, List, [], ◌∷◌, ◌++◌, length, get_or, take, drop, sym, refl, ap, ◌∙◌, arith}
+use Rattle.std.proofs.Common.{◌≡◌, ℕ, suc, ◌+◌, ◌-◌, ◌<◌, ◌≤◌, Bool, true, false, cond, not, eqb, ltb, List, [], ◌∷◌, ◌++◌, length, take, drop, Some, None, Option, unwrap_or, refl, ap, ◌∙◌, arith}
+use Rattle.std.specs.List.{position_or_len}
+use Rattle.std.proofs.lemmas.Bool.{ltb-false}
+use Rattle.std.proofs.lemmas.List.Sums.{prefix_len-le-length}
 use Rattle.std.proofs.lemmas.Slice.{between_to_end}
-use Rattle.std.proofs.lemmas.Bool.{ne_eqb, eq-eqb, cond-true, cond-false}
 use Rattle.script.specs.Line.{upto, from}
 use Rattle.script.specs.Lines.{past}
 
@@ -9,31 +11,37 @@ use Rattle.script.specs.Lines.{past}
 abbrev pub after_one : List ℕ → List ℕ
 after_one s = take (length s - 1) (drop 1 s)
 
--- none of the first n bytes is d
-pub record Before (d n : ℕ) (s : List ℕ) : Type 0 where
-  pub within : n ≤ length s
-  pub none : (k : ℕ) → k < n → get_or s k 0 ≡ d → ⊥
+one_more : (n : ℕ) → 1 + n ≡ suc n
+one_more n = omega arith
 
 module _ (d : ℕ) where
-  before_tail : (n b : ℕ) (s : List ℕ) → Before d (suc n) (b ∷ s) → Before d n s
-  before_tail n b s h = record { within = omega (arith, h.within); none = λ k lt e. h.none (suc k) (omega arith) e }
+  -- where the first d stands, or the length
+  abbrev pub place : List ℕ → ℕ
+  place s = position_or_len (λ b. eqb b d) s
 
-  first_differs : (n b : ℕ) (s : List ℕ) → Before d (suc n) (b ∷ s) → eqb b d ≡ false
-  first_differs n b s h = ne_eqb b d (h.none 0 (omega arith))
+  -- a search that found no d goes on to the end
+  pub place_found : (s : List ℕ) (r : Option ℕ) → r ≡ cond (ltb (place s) (length s)) (Some (place s)) None → unwrap_or r (length s) ≡ place s
+  place_found s r is = ap (λ o. unwrap_or o (length s)) is ∙ go (ltb (place s) (length s)) refl
+    where
+      go : (t : Bool) → ltb (place s) (length s) ≡ t → unwrap_or (cond t (Some (place s)) None) (length s) ≡ place s
+      go true e = refl
+      go false e = let past_end = ltb-false (place s) (length s) e in omega (arith, prefix_len-le-length (λ b. not (eqb b d)) s)
 
-  -- where the bytes end after n, or a d follows, the first n are those before d
-  pub take_before : (n : ℕ) (s : List ℕ) → Before d n s → (n < length s → get_or s n 0 ≡ d) → take n s ≡ upto d s
-  take_before zero [] h at = refl
-  take_before (suc n) [] h at = refl
-  take_before zero (b ∷ s) h at = sym (cond-true _ _ _ (eq-eqb b d (at (omega arith))))
-  take_before (suc n) (b ∷ s) h at =
-      ap (λ l. b ∷ l) (take_before n s (before_tail n b s h) (λ lt. at (omega arith))) ∙ sym (cond-false _ _ _ (first_differs n b s h))
+  pub take_place : (s : List ℕ) → take (place s) s ≡ upto d s
+  take_place [] = refl
+  take_place (b ∷ s) = go (eqb b d) (take_place s)
+    where
+      go : (t : Bool) → take (place s) s ≡ upto d s → take (cond (not t) (1 + place s) 0) (b ∷ s) ≡ cond t [] (b ∷ upto d s)
+      go true later = refl
+      go false later = ap (λ k. take k (b ∷ s)) (one_more (place s)) ∙ ap (λ l. b ∷ l) later
 
-  pub drop_before : (n : ℕ) (s : List ℕ) → Before d n s → (n < length s → get_or s n 0 ≡ d) → drop n s ≡ from d s
-  drop_before zero [] h at = refl
-  drop_before (suc n) [] h at = refl
-  drop_before zero (b ∷ s) h at = sym (cond-true _ _ _ (eq-eqb b d (at (omega arith))))
-  drop_before (suc n) (b ∷ s) h at = drop_before n s (before_tail n b s h) (λ lt. at (omega arith)) ∙ sym (cond-false _ _ _ (first_differs n b s h))
+  pub drop_place : (s : List ℕ) → drop (place s) s ≡ from d s
+  drop_place [] = refl
+  drop_place (b ∷ s) = go (eqb b d) (drop_place s)
+    where
+      go : (t : Bool) → drop (place s) s ≡ from d s → drop (cond (not t) (1 + place s) 0) (b ∷ s) ≡ cond t (b ∷ s) (from d s)
+      go true later = refl
+      go false later = ap (λ k. drop k (b ∷ s)) (one_more (place s)) ∙ later
 
   pub upto_from : (s : List ℕ) → upto d s ++ from d s ≡ s
   upto_from [] = refl

@@ -3,4 +3,3 @@ pub mod Broken
 pub mod Cutting
 pub mod Numerals
 pub mod Numbers
-pub mod Replies

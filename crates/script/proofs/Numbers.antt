@@ -1,10 +1,12 @@
 -- Digits read one after another.
-use Rattle.std.proofs.Common.{◌≡◌, ℕ, suc, ◌+◌, ◌-◌, ◌*◌, ◌^◌, ◌<◌, ◌≤◌, true, cond, ◌&&◌, leb, List, [], ◌∷◌, length, get_or, Some, None, sym, ap, ◌∙◌, mul-le-mul_right, mul_assoc, mul-le-mul_left, arith}
+use Rattle.std.proofs.Common.{◌≡◌, ℕ, suc, ◌+◌, ◌-◌, ◌*◌, ◌^◌, ◌<◌, ◌≤◌, true, cond, ◌&&◌, leb, List, [], ◌∷◌, length, drop, get_or, Some, None, sym, ap, ◌∙◌, mul-le-mul_right, mul_assoc, mul-le-mul_left, arith}
 use native.Mathlib.Nat.{one-le-pow, pow-succ'}
-use Rattle.std.proofs.lemmas.Slice.{between_to_end}
+use Rattle.std.specs.Char.{digit_value}
+use Rattle.std.proofs.lemmas.List.{drop_more}
+use Rattle.std.proofs.lemmas.Str.{digit_value_digit}
+use Rattle.std.proofs.lemmas.Str.Parse.{digit_from_value}
 use Rattle.std.proofs.lemmas.Bool.{le-leb, lt-ltb, cond-true, and_from}
 use Rattle.script.specs.Line.{is_digit, all_digits, value, number_of}
-use Rattle.script.proofs.Cutting.{after_one}
 
 -- n is what the digits of s before left stand for
 pub record Sofar (s : List ℕ) (n : ℕ) (left : List ℕ) : Type 0 where
@@ -31,12 +33,9 @@ first_digit_read s n b left low high h =
       small = omega (arith, h.small);
     }
 
-pub digit_read : (s : List ℕ) (n : ℕ) (left : List ℕ) → 1 ≤ length left → 48 ≤ get_or left 0 0 → get_or left 0 0 ≤ 57 → Sofar s n left → Sofar s (n * 10 + (get_or left 0 0 - 48)) (after_one left)
-digit_read s n [] long low high h = absurd (omega arith)
-digit_read s n (b ∷ left) long low high h = rw (between_to_end (b ∷ left) 1 (length (b ∷ left)) (omega arith)) (first_digit_read s n b left low high h)
-
--- with no byte left, every byte was a digit
-pub all_read : (s : List ℕ) (n : ℕ) (left : List ℕ) → length left ≡ 0 → 0 < length s → length s ≤ 5 → Sofar s n left → cond (leb n 65535) (Some n) None ≡ number_of s
-all_read s n [] none some few h =
-    ap (λ v. cond (leb v 65535) (Some v) None) h.same ∙ sym (cond-true _ _ _ (and_from _ _ (lt-ltb 0 (length s) some) (le-leb (length s) 5 few)) ∙ cond-true _ _ _ (sym h.digits))
-all_read s n (b ∷ left) none some few h = absurd (omega arith)
+pub digit_read : (s : List ℕ) (n i v : ℕ) → i < length s → digit_value (get_or s i 0) < 10 → v ≡ digit_value (get_or s i 0) → Sofar s n (drop i s) → Sofar s (n * 10 + v) (drop (i + 1) s)
+digit_read s n i v within digit is h =
+    let b = get_or s i 0 in
+    let range = digit_from_value b digit in
+    let same : v ≡ b - 48 = omega (arith, digit_value_digit b range) in
+    rw same (first_digit_read s n b (drop (i + 1) s) range.0 range.1 (rw (drop_more s i 0 within) at h))

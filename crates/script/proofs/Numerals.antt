@@ -9,11 +9,6 @@ use Rattle.script.specs.declared.lines.Command.TheVariants.{Euler}
 use Rattle.script.specs.Line.{is_digit, all_digits, Numeral, Numerals, Says, upto, from, number_of, followed, next_number, alone, letter_command, command_of}
 use Rattle.script.proofs.Cutting.{after_one, upto_from}
 
-pub number_after_space : (s : List ℕ) → 1 ≤ length s → get_or s 0 0 ≡ 32 → followed (number_of (upto 32 (after_one s))) (from 32 (after_one s)) ≡ next_number s
-number_after_space [] long e = absurd (omega arith)
-number_after_space (b ∷ s) long e =
-    ap (λ l. followed (number_of (upto 32 l)) (from 32 l)) (between_to_end (b ∷ s) 1 (length (b ∷ s)) (omega arith)) ∙ sym (cond-true _ _ _ (eq-eqb b 32 e))
-
 pub command_by_letter : (s : List ℕ) → 1 ≤ length s → length (after_one s) < 64 → letter_command (get_or s 0 0) (after_one s) ≡ command_of s
 command_by_letter [] long few = absurd (omega arith)
 command_by_letter (b ∷ s) long few =

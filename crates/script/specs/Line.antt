@@ -1,5 +1,5 @@
 -- What a line of a script says.
-use Rattle.std.specs.Prelude.{◌≡◌, ℕ, ◌+◌, ◌-◌, ◌*◌, ◌<◌, ◌≤◌, Bool, true, cond, ◌&&◌, List, [], ◌∷◌, ◌++◌, length, Some, None, Option, ◌==◌, nat_le, nat_lt}
+use Rattle.std.specs.Prelude.{◌≡◌, ℕ, ◌+◌, ◌-◌, ◌*◌, ◌<◌, ◌≤◌, Bool, true, cond, ◌&&◌, List, [], ◌∷◌, ◌++◌, length, Some, None, Option, ◌==◌, ◌↔◌, nat_le, nat_lt}
 use Rattle.std.specs.Option.{option_map}
 use Rattle.script.specs.declared.lines.Command.{Command}
 use Rattle.script.specs.declared.lines.Command.TheVariants.{Euler}
@@ -80,3 +80,8 @@ letter_command letter s = cond (letter == 101) (option_map Euler (alone (next_nu
 abbrev pub command_of : List ℕ → Option Command
 command_of [] = None
 command_of (letter ∷ s) = cond (nat_lt (length s) 64) (letter_command letter s) None
+
+-- what is read is the command of the line, if it has one, and a command is read exactly where the line says it
+pub record Reads (line : List ℕ) (r : Option Command) : Type 0 where
+  pub value : r ≡ command_of line
+  pub law : (k : Command) → (r ≡ Some k) ↔ Says line k

@@ -1,32 +1,35 @@
 // The lines of a script, and the command that a line says.
-ghost use Rattle.std.specs.Prelude.{◌≡◌, ◌↔◌, Some};
+ghost use Rattle.std.specs.Prelude.{◌≡◌, ◌↔◌, Ok};
+ghost use Rattle.std.specs.Iterator.{YieldsFirstRef, item_count};
 ghost use Rattle.std.specs.Option.{option_map};
-ghost use Rattle.script.specs.Line.{upto, from, number_of, next_number, alone, letter_command, command_of, Says};
+ghost use Rattle.std.specs.Result.{result_ok};
+ghost use Rattle.script.specs.Line.{upto, from, number_of, next_number, alone, letter_command, command_of, Reads};
 ghost use Rattle.script.specs.Lines.{first_line, lines, Lined, Leads};
 
-// The limits of a line: how many bytes it may have, how many digits a number, and the largest number.
+use std::marker::Model;
+
+// The limits of a line: how many bytes it may have, and how many digits a number.
 const LINE_LIMIT: usize = 64;
 
 const DIGIT_LIMIT: usize = 5;
 
-const NUMBER_LIMIT: u32 = 65535;
-
 // What a line asks: the Euler number of a part.
-#[derive(Clone, Copy)]
+#[derive(Debug, Clone, Copy, PartialEq, Eq)]
 pub enum Command {
     Euler(u16),
 }
+
+// The line says no command.
+#[derive(Debug, Clone, Copy, PartialEq, Eq)]
+pub struct UnreadableLine;
 
 // The bytes before the first `end`, and those from it on.
 fn cut(bytes: &[u8], end: u8) -> (&[u8], &[u8])
     ensures front { result.0.now ≡ upto end bytes.now }
     ensures back { result.1.now ≡ from end bytes.now }
 {
-    let mut n = 0;
-    while n < bytes.len() && bytes[n] != end {
-        n += 1;
-    }
-    bytes.split_at(n)
+    let at = bytes.iter().position(|&b| b == end);
+    bytes.split_at(at.unwrap_or(bytes.len()))
 }
 
 // A decimal number of one to five digits, at most 65,535.
@@ -37,19 +40,10 @@ fn number(digits: &[u8]) -> Option<u16>
         return None;
     }
     let mut n = 0u32;
-    let mut left = digits;
-    while let [b, rest @ ..] = left {
-        match *b {
-            b'0'..=b'9' => n = n * 10 + (*b - b'0') as u32,
-            _ => return None,
-        }
-        left = rest;
+    for digit in digits {
+        n = n * 10 + char::from(*digit).to_digit(10)?;
     }
-    if n <= NUMBER_LIMIT {
-        Some(n as u16)
-    } else {
-        None
-    }
+    u16::try_from(n).ok()
 }
 
 // A space and a number, and what stands after it.
@@ -59,8 +53,7 @@ fn next_number(bytes: &[u8]) -> Option<(u16, &[u8])>
     match bytes {
         [b' ', rest @ ..] => {
             let (digits, after) = cut(rest, b' ');
-            let n = number(digits)?;
-            Some((n, after))
+            Some((number(digits)?, after))
         }
         _ => None,
     }
@@ -85,13 +78,18 @@ fn letter_command(letter: char, bytes: &[u8]) -> Option<Command>
 }
 
 // The command that a line says, if it is readable.
-pub fn command_of(line: &[u8]) -> Option<Command>
-    ensures value { result ≡ command_of line.now }
-    ensures law { (k : Command) → (result ≡ Some k) ↔ Says line.now k }
-{
-    match line {
-        [letter, rest @ ..] if rest.len() < LINE_LIMIT => letter_command(*letter as char, rest),
-        _ => None,
+impl<'a> TryFrom<&'a [u8]> for Command {
+    type Error = UnreadableLine;
+
+    ghost try_from_gives = { λ line r. Reads line.now (result_ok r) };
+
+    fn try_from(line: &'a [u8]) -> Result<Command, UnreadableLine> {
+        match line {
+            [letter, rest @ ..] if rest.len() < LINE_LIMIT => {
+                letter_command(char::from(*letter), rest).ok_or(UnreadableLine)
+            }
+            _ => Err(UnreadableLine),
+        }
     }
 }
 
@@ -108,5 +106,44 @@ pub fn next_line(script: &[u8]) -> Option<(&[u8], &[u8])>
     match after {
         [_, rest @ ..] => Some((line, rest)),
         [] => Some((line, after)),
+    }
+}
+
+// The lines of the part of a script that is still to be read.
+#[derive(Drop)]
+pub struct Lines<'a> {
+    script: &'a [u8],
+}
+
+impl<'a> Model for Lines<'a> {
+    ghost use Rattle.std.specs.Prelude.{List, ℕ};
+    ghost use Rattle.script.specs.Lines.{lines};
+
+    ghost Value = { List (List ℕ) };
+
+    ghost view = { λ l. lines l.script.now };
+}
+
+impl<'a> Lines<'a> {
+    // The lines of a script.
+    pub fn of(script: &'a [u8]) -> Lines<'a>
+        ensures value { result ≡ lines script.now }
+        ensures law { Lined script.now result }
+    {
+        Lines { script }
+    }
+}
+
+impl<'a> Iterator for Lines<'a> {
+    type Item = &'a [u8];
+
+    ghost next_gives = { YieldsFirstRef (λ l. l) };
+
+    ghost remaining = { item_count (λ l. l) };
+
+    fn next(&mut self) -> Option<&'a [u8]> {
+        let (line, rest) = next_line(self.script)?;
+        self.script = rest;
+        Some(line)
     }
 }

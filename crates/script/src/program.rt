@@ -9,29 +9,31 @@ use std::io::{ErrorKind, Read};
 // The bytes of the file and of the input that are read at most.
 const MOST: usize = 65536;
 
-// Reads up to the end of the input or of the buffer, and answers how much was read.
-fn fill<R: Read>(input: &mut R, buffer: &mut [u8]) -> io::Result<usize>
-    ensures { IfOk result (λ n. n ≤ length buffer.new) }
+// Reads up to the end of the input or of the buffer, and answers what was read.
+fn fill<'a, R: Read>(input: &mut R, buffer: &'a mut [u8]) -> io::Result<&'a [u8]>
+    ensures { IfOk result (λ read. length read.now ≤ length buffer.old) }
 {
-    let mut at = 0;
-    while at < buffer.len() {
-        let end = buffer.len();
-        let n = input.read(&mut buffer[at..end])?;
+    let most = buffer.len();
+    let mut left = &mut *buffer;
+    while !left.is_empty() {
+        let n = input.read(left)?;
         if n == 0 {
             break;
         }
-        at += n;
+        let (_, rest) = left.split_at_mut(n);
+        left = rest;
     }
-    Ok(at)
+    let unread = left.len();
+    Ok(&buffer[..most - unread])
 }
 
 // Reads model.bin; an absent file reads as empty.
-fn fill_from_file(rt: &HostRuntime, buffer: &mut [u8]) -> io::Result<usize>
-    ensures { IfOk result (λ n. n ≤ length buffer.new) }
+fn fill_from_file<'a>(rt: &HostRuntime, buffer: &'a mut [u8]) -> io::Result<&'a [u8]>
+    ensures { IfOk result (λ read. length read.now ≤ length buffer.old) }
 {
     match File::open(rt, "model.bin") {
         Ok(mut file) => fill(&mut file, buffer),
-        Err(e) if e.kind() == ErrorKind::NotFound => Ok(0),
+        Err(e) if e.kind() == ErrorKind::NotFound => Ok(&[]),
         Err(e) => Err(e),
     }
 }
@@ -39,9 +41,9 @@ fn fill_from_file(rt: &HostRuntime, buffer: &mut [u8]) -> io::Result<usize>
 // The whole program.
 pub fn start(rt: &HostRuntime) -> io::Result<()> {
     let mut file = [0u8; MOST];
-    let held = fill_from_file(rt, &mut file)?;
+    let file = fill_from_file(rt, &mut file)?;
     let mut script = [0u8; MOST];
-    let read = fill(&mut rt.stdin(), &mut script)?;
-    let text = transcript(rt.alloc(), &file[..held], &script[..read])?;
+    let script = fill(&mut rt.stdin(), &mut script)?;
+    let text = transcript(rt.alloc(), file, script)?;
     rt.print(text)
 }

@@ -2,6 +2,7 @@
 ghost use Rattle.std.specs.Prelude.{◌≡◌, Bool, List, length};
 ghost use Rattle.order.specs.Assoc.{first};
 ghost use Rattle.search.specs.Nodes.{Member, own, Ordered, left, Amid, Leads, Between, NextJoined};
+
 use order::record::Record;
 
 // Nodes of a kind that has an order, some of them joined.

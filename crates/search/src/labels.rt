@@ -1,6 +1,7 @@
 // Records that hold nodes with the labels of their classes.
 ghost use Rattle.std.specs.Prelude.{◌≡◌, ◌<◌, length, slice_index_or};
 ghost use Rattle.search.specs.Classes.{relabelled, renamed, lessened, is_own, class_count};
+
 use order::record::Record;
 use std::cmp::Ordering;
 
@@ -51,11 +52,5 @@ fn is_own<N: Ord>(row: &Record<N, N>) -> bool
 pub(crate) fn count_own<N: Ord + Copy>(rows: &[Record<N, N>]) -> usize
     ensures { result ≡ class_count N.Ord.cmp rows.now }
 {
-    let mut count = 0;
-    for row in rows {
-        if is_own(row) {
-            count += 1;
-        }
-    }
-    count
+    rows.iter().filter(|row| is_own(row)).count()
 }

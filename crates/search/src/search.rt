@@ -17,6 +17,7 @@ fn count<J: Joining>(graph: &J, room: usize) -> Option<usize>
 {
     let mut n = 0;
     let mut at = None;
+    // An iterator would have to carry that it stands at a node, for which `next` answers; this is no longer.
     while let Some(node) = graph.next(at) {
         if n == room {
             return None;
@@ -35,7 +36,8 @@ fn list<J: Joining>(graph: &J, rows: &mut [Record<J::Node, J::Node>])
     let mut table = Table::open(rows);
     let mut at = None;
     while let Some(node) = graph.next(at) {
-        table.put(node, node);
+        // There is a record for each node, so that none is refused.
+        let _ = table.put(node, node);
         at = Some(node);
     }
 }
@@ -48,6 +50,7 @@ fn join<J: Joining>(graph: &J, rows: &mut [Record<J::Node, J::Node>], at: usize)
 {
     let node = rows[at].key;
     let mut from = 0;
+    // The labels change on the way, so that no iterator can hold the records.
     while let Some(place) = graph.next_joined(node, front(rows, at), from) {
         unite(rows, at, place);
         from = place + 1;
@@ -62,6 +65,7 @@ pub fn search<J: Joining>(graph: &J, rows: &mut [Record<J::Node, J::Node>]) -> O
     let n = count(graph, rows.len())?;
     list(graph, rows);
     let labels = &mut rows[0..n];
+    // Each turn changes labels of earlier records too, so it takes all of them and a place.
     for at in 0..n {
         join(graph, labels, at);
     }

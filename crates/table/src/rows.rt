@@ -6,7 +6,8 @@ use crate::search::{past, seek};
 use crate::shift::{close_gap, insert_at};
 use order::record::Record;
 
-// Records that the caller lends; the first `len` are in use, in rising order of their keys.
+// Records that the caller lends; the first `len` are in use, in rising order of their keys. The library asks for no memory
+// of its own, so that the records are a slice with a length, and no growing list.
 #[derive(Drop)]
 pub struct Table<'a, K: Ord, V> {
     records: &'a mut [Record<K, V>],
@@ -86,7 +87,7 @@ impl<'a, K: Ord + Copy, V: Copy> Table<'a, K, V> {
                 Ok(())
             }
             Err(at) if self.len < self.records.len() => {
-                insert_at(self.records, at, self.len, Record { key, value });
+                insert_at(&mut self.records[..self.len + 1], at, Record { key, value });
                 self.len += 1;
                 Ok(())
             }
@@ -102,7 +103,7 @@ impl<'a, K: Ord + Copy, V: Copy> Table<'a, K, V> {
         ensures does { Removed K.Ord.cmp key.now self.old self.new }
     {
         if let Ok(at) = seek(self.rows(), key) {
-            close_gap(self.records, at, self.len);
+            close_gap(&mut self.records[..self.len], at);
             self.len -= 1;
         }
     }

@@ -1,24 +1,21 @@
-// Records moved by one place.
-ghost use Rattle.std.specs.Prelude.{◌≡◌, ◌+◌, ◌-◌, ◌<◌, ◌≤◌, length, take, drop};
+// Elements moved by one place.
+ghost use Rattle.std.specs.Prelude.{◌≡◌, ◌-◌, ◌<◌, length, take};
 ghost use Rattle.std.specs.List.{insert, remove};
 
-// Writes x at a place among the first `len` rows, after those from there on moved up by one.
-pub(crate) fn insert_at<T: Copy>(rows: &mut [T], at: usize, len: usize, x: T)
-    requires within { at ≤ len }
-    requires room { len < length rows.old }
-    ensures front { take (len + 1) rows.new ≡ insert (take len rows.old) at x }
-    ensures rest { drop (len + 1) rows.new ≡ drop (len + 1) rows.old }
+// Writes x at a place, after the elements from there on moved up by one; the last one is lost.
+pub(crate) fn insert_at<T: Copy>(rows: &mut [T], at: usize, x: T)
+    requires { at < length rows.old }
+    ensures { rows.new ≡ insert (take (length rows.old - 1) rows.old) at x }
 {
-    rows.copy_within(at..len, at + 1);
+    rows.copy_within(at..rows.len() - 1, at + 1);
     rows[at] = x;
 }
 
-// Takes out the row at a place among the first `len`, by moving those past it down by one.
-pub(crate) fn close_gap<T: Copy>(rows: &mut [T], at: usize, len: usize)
-    requires within { at < len }
-    requires room { len ≤ length rows.old }
-    ensures front { take (len - 1) rows.new ≡ remove (take len rows.old) at }
-    ensures rest { drop len rows.new ≡ drop len rows.old }
+// Takes out the element at a place, by moving those past it down by one; what the last place then holds is not settled.
+pub(crate) fn close_gap<T: Copy>(rows: &mut [T], at: usize)
+    requires { at < length rows.old }
+    ensures front { take (length rows.old - 1) rows.new ≡ remove rows.old at }
+    ensures len { length rows.new ≡ length rows.old }
 {
-    rows.copy_within(at + 1..len, at);
+    rows.copy_within(at + 1.., at);
 }

@@ -3,12 +3,10 @@ use Rattle.std.proofs.Common.{◌≡◌, ℕ, ◌<◌, true, List, [], ◌∷◌
 use Rattle.std.proofs.lemmas.Bool.{and_parts, and_from, lt-ltb}
 use Rattle.order.specs.Assoc.{by, bind, put}
 use Rattle.complex.specs.Model.{Model}
-use Rattle.complex.specs.Simplex.{colex, rises, proper, below}
-use Rattle.simplex.specs.declared.shape.Shape.{Shape}
-use Rattle.simplex.specs.declared.shape.Shape.TheVariants.{Point, Edge, Triangle, Tetrahedron}
+use Rattle.complex.specs.Simplex.{colex, below}
 use Rattle.simplex.specs.declared.simplex.Simplex.{Simplex}
-use Rattle.simplex.specs.Shapes.{corners}
 use Rattle.simplex.specs.Simplexes.{vertices}
+use Rattle.simplex.proofs.Corners.{vertices_proper}
 use Rattle.store.specs.Contents.{fits}
 
 bind_keeps_fits : (n : ℕ) (k : List ℕ) (o : Option ℕ) (M : Model) → fits n (bind k o []) ≡ true → fits n M ≡ true → fits n (bind k o M) ≡ true
@@ -24,13 +22,7 @@ put_keeps_fits n k o (r ∷ rs) one f = go (put_keeps_fits n k o rs one (and_par
     go more Equal = bind_keeps_fits n k o rs one (and_parts _ _ f).1
     go more Greater = bind_keeps_fits n k o (r ∷ rs) one f
 
-corners_proper : (s : Shape) → rises (corners s) ≡ true → proper (corners s) ≡ true
-corners_proper (Point a) h = h
-corners_proper (Edge a b) h = h
-corners_proper (Triangle a b c) h = h
-corners_proper (Tetrahedron a b c d) h = h
-
 -- a simplex in range, with a mask from 1 to 255
 pub one_fits : (n : ℕ) (s : Simplex) (m : ℕ) → below n (vertices s) ≡ true → 0 < m → m < 256 → fits n (bind (vertices s) (Some m) []) ≡ true
 one_fits n s m b l h =
-    and_from _ true (and_from _ _ (corners_proper s.shape s.rising) (and_from _ _ b (and_from _ _ (lt-ltb 0 m l) (lt-ltb m 256 h)))) refl
+    and_from _ true (and_from _ _ (vertices_proper s) (and_from _ _ b (and_from _ _ (lt-ltb 0 m l) (lt-ltb m 256 h)))) refl

@@ -5,23 +5,16 @@
 mod tests {
     use order::record::Record;
     use simplex::simplex::Simplex;
-    use std::cmp::Ordering;
+    use simplex::simplex::makes::NotRising;
     use std::test::Fail;
     use store::meaning::Store;
     use store::refusal::StoreRefusal;
     use table_store::records::TableStore;
 
     fn simplex(list: &[u16]) -> Result<Simplex, Fail> {
-        match Simplex::of(list) {
-            Some(s) => Ok(s),
-            None => Err(Fail::new("not a simplex")),
-        }
-    }
-
-    fn is(found: Option<Simplex>, s: &Simplex) -> bool {
-        match found {
-            Some(t) => t.cmp(s) == Ordering::Equal,
-            None => false,
+        match Simplex::try_from(list) {
+            Ok(s) => Ok(s),
+            Err(NotRising) => Err(Fail::new("not a simplex")),
         }
     }
 
@@ -49,10 +42,10 @@ mod tests {
         assert_eq!(rt; number(store.put(edge, 3)), 0);
         assert_eq!(rt; number(store.put(point, 255)), 0);
         assert_eq!(rt; store.look(&edge), 3);
-        assert!(rt; is(store.after(None), &point));
-        assert!(rt; is(store.after(Some(point)), &edge));
-        assert!(rt; is(store.after(Some(edge)), &triangle));
-        assert!(rt; store.after(Some(triangle)).is_none());
+        assert_eq!(rt; store.after(None), Some(point));
+        assert_eq!(rt; store.after(Some(point)), Some(edge));
+        assert_eq!(rt; store.after(Some(edge)), Some(triangle));
+        assert_eq!(rt; store.after(Some(triangle)), None);
         assert_eq!(rt; number(store.put(edge, 0)), 0);
         assert_eq!(rt; number(store.put(edge, 0)), 0);
         assert_eq!(rt; store.look(&edge), 0);
@@ -107,7 +100,7 @@ mod tests {
         let mut store = TableStore::open(&mut records);
         assert_eq!(rt; store.limit(), 0);
         assert_eq!(rt; number(store.put(point, 1)), 22);
-        assert!(rt; store.after(None).is_none());
+        assert_eq!(rt; store.after(None), None);
         Ok(())
     }
 }

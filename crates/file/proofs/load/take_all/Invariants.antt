@@ -7,8 +7,8 @@ use Rattle.file.proofs.load.take_all.Given as goal
 
 abbrev pub invariant-loop-next : goal.invariant-loop-next
 invariant-loop-next g l =
-    (loaded (g.K.Holder.contents l.draft.holder) (to_come l.reader) ≡ loaded (g.K.Holder.contents l.initial.draft.holder) (outcomes l.file))
-    × (emptied (g.K.Holder.contents l.draft.holder) ≡ emptied (g.K.Holder.contents l.initial.draft.holder))
+    (loaded l.draft (to_come l.next-iterator) ≡ loaded l.initial.draft (outcomes l.file))
+    × (emptied l.draft ≡ emptied l.initial.draft)
 
 abbrev pub decreases-loop-next : goal.decreases-loop-next
-decreases-loop-next g l = length (to_come l.reader)
+decreases-loop-next g l = length (to_come l.next-iterator)

@@ -1,9 +1,9 @@
--- What was read lies within the buffer.
-use Rattle.std.proofs.Common.{◌-◌, ◌≤◌, length}
+-- What is left to fill lies within the buffer.
+use Rattle.std.proofs.Common.{◌≤◌, length}
 use Rattle.script.proofs.program.fill.Given as goal
 
-abbrev pub invariant-loop-at : goal.invariant-loop-at
-invariant-loop-at g l = l.at ≤ length l.initial.buffer
+abbrev pub invariant-loop-input : goal.invariant-loop-input
+invariant-loop-input g l = length l.left ≤ l.most
 
-abbrev pub decreases-loop-at : goal.decreases-loop-at
-decreases-loop-at g l = length l.initial.buffer - l.at
+abbrev pub decreases-loop-input : goal.decreases-loop-input
+decreases-loop-input g l = length l.left

@@ -10,11 +10,11 @@ loop-node-init g c = (omega (arith, length-map (g.J.Joining.nodes c.args.graph.n
 pub loop-node-smaller : goal.loop-node-smaller
 loop-node-smaller g c =
     let m = g.met.J.Node.Ord in
-    let step = node_step g.J.Node.Ord.cmp (m.total) (g.J.Joining.nodes c.args.graph.now) c.loop-node.at c.in-Some.node c.next.ensures.sorted (c.in-Some.ensures.next c.loop-node.invariant.1) in
+    let step = node_step g.J.Node.Ord.cmp m.total (g.J.Joining.nodes c.args.graph.now) c.loop-node.at c.in-Some.node c.next.ensures.sorted (c.in-Some.ensures.next c.loop-node.invariant.1) in
     omega (arith, ap length step.first)
 
 pub loop-node-preserved : goal.loop-node-preserved
 loop-node-preserved g c =
     let m = g.met.J.Node.Ord in
-    let step = node_step g.J.Node.Ord.cmp (m.total) (g.J.Joining.nodes c.args.graph.now) c.loop-node.at c.in-Some.node c.next.ensures.sorted (c.in-Some.ensures.next c.loop-node.invariant.1) in
+    let step = node_step g.J.Node.Ord.cmp m.total (g.J.Joining.nodes c.args.graph.now) c.loop-node.at c.in-Some.node c.next.ensures.sorted (c.in-Some.ensures.next c.loop-node.invariant.1) in
     (omega (arith, ap length step.first, c.loop-node.invariant.0), step.node, omega arith)

@@ -5,18 +5,18 @@ use Rattle.std.proofs.lemmas.Bool.{lt-ltb, or_right}
 use Rattle.order.specs.Assoc.{rising, lookup, put}
 use Rattle.search.specs.Nodes.{own, left}
 use Rattle.table.specs.Held.{held}
-use Rattle.table.proofs.Changes.{drop_further}
+use Rattle.table.proofs.Shifts.{drop_further}
 use Rattle.search.proofs.Listing.{put_last}
 use Rattle.search.proofs.Walks.{itself, nothing_left, node_step}
 use Rattle.search.proofs.search.list.Goals as goal
 
 pub loop-node-init : goal.loop-node-init
-loop-node-init g c = (ap (λ rows. rows ++ own (g.J.Joining.nodes c.args.graph.now)) c.open-table.ensures.held, tt, c.open-table.ensures.good, refl, refl, refl)
+loop-node-init g c = (ap (λ rows. rows ++ own (g.J.Joining.nodes c.args.graph.now)) c.open-table.ensures.held, tt, refl, refl, refl)
 
 pub loop-node-smaller : goal.loop-node-smaller
 loop-node-smaller g c =
     let m = g.met.J.Node.Ord in
-    let step = node_step g.J.Node.Ord.cmp (m.total) (g.J.Joining.nodes c.args.graph.now) c.loop-node.at c.in-Some.node c.next.ensures.sorted (c.in-Some.ensures.next c.loop-node.invariant.1) in
+    let step = node_step g.J.Node.Ord.cmp m.total (g.J.Joining.nodes c.args.graph.now) c.loop-node.at c.in-Some.node c.next.ensures.sorted (c.in-Some.ensures.next c.loop-node.invariant.1) in
     omega (arith, ap length step.first)
 
 pub loop-node-preserved : goal.loop-node-preserved
@@ -28,20 +28,19 @@ loop-node-preserved g c =
     let u = c.put.new.self in
     let x = c.in-Some.node in
     let l = c.loop-node.invariant in
-    let step = node_step rank (m.total) nodes c.loop-node.at x c.next.ensures.sorted (c.in-Some.ensures.next l.1) in
+    let step = node_step rank m.total nodes c.loop-node.at x c.next.ensures.sorted (c.in-Some.ensures.next l.1) in
     let after = left rank (Some x) (own nodes) in
     let all : held t ++ itself x ∷ after ≡ own nodes = sym (ap (λ rows. held t ++ rows) step.first) ∙ l.0 in
-    let stored = c.put.ensures.does l.2 in
-    let used : length (held t) ≡ t.len = length-take-le t.len t.records.now l.2.0 in
-    let room : t.len < length t.records.now = omega (arith, used, c.requires, ap length c.open-table.ensures.records, l.3, ap length all, length-append (held t) (itself x ∷ after), length-map nodes itself) in
+    let stored = c.put.ensures.does in
+    let used : length (held t) ≡ t.len = length-take-le t.len t.records.now t.within in
+    let room : t.len < length t.records.now = omega (arith, used, c.requires, ap length c.open-table.ensures.records, l.2, ap length all, length-append (held t) (itself x ∷ after), length-map nodes itself) in
     let put_in = stored.fits ∙ or_right (is_some (lookup rank x (held t))) (ltb t.len (length t.records.now)) (lt-ltb t.len (length t.records.now) room) in
     let holds : held u ≡ held t ++ itself x ∷ [] = stored.holds ∙ ap (λ b. cond b (put rank x (Some x) (held t)) (held t)) put_in ∙ put_last rank (held t) after x (ap (rising rank) all ∙ c.next.ensures.sorted) in (
       ap (λ rows. rows ++ after) holds ∙ append_assoc (held t) (itself x ∷ []) after ∙ all,
       step.node,
-      stored.good,
-      c.put.ensures.room ∙ l.3,
-      c.put.ensures.unused ∙ drop_further t.len u.len t.records.now c.open-table.result.records.now (omega (arith, stored.long, ap length holds, length-append (held t) (itself x ∷ []), used)) l.4,
-      c.put.ensures.lender ∙ l.5,
+      c.put.ensures.room ∙ l.2,
+      c.put.ensures.unused ∙ drop_further t.len u.len t.records.now c.open-table.result.records.now (omega (arith, stored.long, ap length holds, length-append (held t) (itself x ∷ []), used)) l.3,
+      c.put.ensures.lender ∙ l.4,
     )
 
 pub returns : goal.returns
@@ -49,11 +48,11 @@ returns g c =
     let nodes = g.J.Joining.nodes c.args.graph.now in
     let t = c.loop-node.table in
     let l = c.loop-node.invariant in
-    let named = l.5 ∙ c.open-table.ensures.lender in
+    let named = l.4 ∙ c.open-table.ensures.lender in
     let none = nothing_left _ (sym (c.in_default.ensures.next l.1)) in
     let all : held t ≡ own nodes = sym (append-nil (held t)) ∙ sym (ap (λ rows. held t ++ rows) none) ∙ l.0 in
-    let used : t.len ≡ length nodes = sym (length-take-le t.len t.records.now l.2.0) ∙ ap length all ∙ length-map nodes itself in
+    let used : t.len ≡ length nodes = sym (length-take-le t.len t.records.now t.within) ∙ ap length all ∙ length-map nodes itself in
     let is : t.records.now ≡ own nodes ++ drop (length nodes) c.args.rows.now =
     sym (take-append-drop t.len t.records.now) ∙ ap (λ rows. rows ++ drop t.len t.records.now) all
-    ∙ ap (λ rows. own nodes ++ rows) (l.4 ∙ ap (drop t.len) c.open-table.ensures.records ∙ ap (λ n. drop n c.args.rows.now) used) in
+    ∙ ap (λ rows. own nodes ++ rows) (l.3 ∙ ap (drop t.len) c.open-table.ensures.records ∙ ap (λ n. drop n c.args.rows.now) used) in
     search rules

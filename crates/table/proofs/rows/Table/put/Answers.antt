@@ -1,6 +1,6 @@
 -- The records in use after the change, and that they rise.
-use Rattle.std.proofs.Common.{◌+◌, set, Some, Ok, Err, sym, ap, ◌∙◌, subst, arith}
-use Rattle.std.proofs.lemmas.List.{length-set, length-take-le}
+use Rattle.std.proofs.Common.{drop, ◌+◌, set, Some, Ok, Err, sym, ap, ◌∙◌, subst, arith}
+use Rattle.std.proofs.lemmas.List.{length-set, length-append, length-take-le}
 use Rattle.std.proofs.lemmas.Bool.{true≢false, or_left, or_right, lt-ltb}
 use Rattle.order.specs.Assoc.{rising}
 use Rattle.order.proofs.Puts.{put_keeps_rising}
@@ -28,7 +28,7 @@ invariant_of-self-in-Err g c =
     let sought : Sought g.K.Ord.cmp k (held t) (Err c.in-Err.at) = subst (λ xs. Sought g.K.Ord.cmp k xs (Err c.in-Err.at)) c.rows.ensures c.in-Err.ensures in
     record {
       within = omega (arith, c.insert_at.auto.rows, c.if-self.true);
-      sorted = ap (rising g.K.Ord.cmp) (inserted g.K.Ord.cmp k t.records.now t.len c.in-Err.at t.sorted v c.insert_at.new.rows sought c.insert_at.ensures.front) ∙ put_keeps_rising g.K.Ord.cmp g.met.K.Ord.total k (Some v) (held t) t.sorted;
+      sorted = ap (rising g.K.Ord.cmp) (inserted g.K.Ord.cmp k t.records.now t.len c.in-Err.at t.sorted v c.insert_at.new.rows c.if-self.true sought c.insert_at.ensures) ∙ put_keeps_rising g.K.Ord.cmp g.met.K.Ord.total k (Some v) (held t) t.sorted;
     }
 
 pub returns-in-Ok-clause-does : goal.returns-in-Ok-clause-does
@@ -52,7 +52,7 @@ returns-in-Err-clause-does g c =
     let sought : Sought g.K.Ord.cmp k (held t) (Err c.in-Err.at) = subst (λ xs. Sought g.K.Ord.cmp k xs (Err c.in-Err.at)) c.rows.ensures c.in-Err.ensures in
     record {
       fits = sym (or_right _ _ (lt-ltb _ _ c.if-self.true));
-      holds = inserted g.K.Ord.cmp k t.records.now t.len c.in-Err.at t.sorted v c.insert_at.new.rows sought c.insert_at.ensures.front;
-      long = sym (length-take-le (t.len + 1) c.insert_at.new.rows (omega (arith, c.insert_at.auto.rows, c.if-self.true)));
+      holds = inserted g.K.Ord.cmp k t.records.now t.len c.in-Err.at t.sorted v c.insert_at.new.rows c.if-self.true sought c.insert_at.ensures;
+      long = sym (length-take-le (t.len + 1) _ (omega (arith, length-append c.insert_at.new.rows (drop (t.len + 1) t.records.now), c.insert_at.auto.rows, c.if-self.true, length-take-le (t.len + 1) t.records.now)));
       untouched = λ f. absurd (true≢false f);
     }

@@ -1,6 +1,6 @@
 -- The records in use after the removal, and that they rise.
-use Rattle.std.proofs.Common.{◌-◌, None, Ok, Err, sym, ap, ◌∙◌, subst, arith}
-use Rattle.std.proofs.lemmas.List.{length-take-le}
+use Rattle.std.proofs.Common.{drop, ◌-◌, None, Ok, Err, sym, ap, ◌∙◌, subst, arith}
+use Rattle.std.proofs.lemmas.List.{length-append, length-take-le}
 use Rattle.order.specs.Assoc.{rising}
 use Rattle.order.proofs.Puts.{put_keeps_rising}
 use Rattle.table.specs.Held.{held}
@@ -15,7 +15,7 @@ invariant_of-self g c =
     let sought : Sought g.K.Ord.cmp k (held t) (Ok c.in-Ok.at) = subst (λ xs. Sought g.K.Ord.cmp k xs (Ok c.in-Ok.at)) c.rows.ensures c.in-Ok.ensures in
     record {
       within = omega (arith, c.close_gap.auto.rows, t.within);
-      sorted = ap (rising g.K.Ord.cmp) (taken_out g.K.Ord.cmp k t.records.now t.len c.in-Ok.at t.sorted c.close_gap.new.rows sought c.close_gap.ensures.front) ∙ put_keeps_rising g.K.Ord.cmp g.met.K.Ord.total k None (held t) t.sorted;
+      sorted = ap (rising g.K.Ord.cmp) (taken_out g.K.Ord.cmp k t.records.now t.len c.in-Ok.at t.sorted c.close_gap.new.rows t.within sought c.close_gap.ensures.front c.close_gap.ensures.len) ∙ put_keeps_rising g.K.Ord.cmp g.met.K.Ord.total k None (held t) t.sorted;
     }
 
 pub returns-in-Ok-clause-does : goal.returns-in-Ok-clause-does
@@ -24,8 +24,8 @@ returns-in-Ok-clause-does g c =
     let k = c.args.key.now in
     let sought : Sought g.K.Ord.cmp k (held t) (Ok c.in-Ok.at) = subst (λ xs. Sought g.K.Ord.cmp k xs (Ok c.in-Ok.at)) c.rows.ensures c.in-Ok.ensures in
     record {
-      holds = taken_out g.K.Ord.cmp k t.records.now t.len c.in-Ok.at t.sorted c.close_gap.new.rows sought c.close_gap.ensures.front;
-      long = sym (length-take-le (t.len - 1) c.close_gap.new.rows (omega (arith, c.close_gap.auto.rows, t.within)));
+      holds = taken_out g.K.Ord.cmp k t.records.now t.len c.in-Ok.at t.sorted c.close_gap.new.rows t.within sought c.close_gap.ensures.front c.close_gap.ensures.len;
+      long = sym (length-take-le (t.len - 1) _ (omega (arith, length-append c.close_gap.new.rows (drop t.len t.records.now), c.close_gap.ensures.len, t.within, length-take-le t.len t.records.now)));
     }
 
 pub returns-in_default-clause-does : goal.returns-in_default-clause-does

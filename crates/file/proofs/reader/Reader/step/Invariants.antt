@@ -2,7 +2,7 @@
 use Rattle.std.proofs.Common.{◌≡◌, ◌-◌}
 use Rattle.file.specs.Entry.{section_count}
 use Rattle.file.specs.Reading.{to_come}
-use Rattle.file.proofs.reader.Reader.settle.Given as goal
+use Rattle.file.proofs.reader.Reader.step.Given as goal
 
 abbrev pub invariant-loop-self : goal.invariant-loop-self
 invariant-loop-self l = to_come l.initial.self ≡ to_come l.self
