@@ -1,9 +1,9 @@
 -- Laying and marking the faces of a simplex one after another.
-use Rattle.std.proofs.Common.{◌≡◌, ℕ, ◌+◌, ◌^◌, ◌<◌, ◌≤◌, eqb, true, cond, List, [], ◌∷◌, length, fold, refl, sym, ap, ◌∙◌, arith}
+use Rattle.std.proofs.Common.{◌≡◌, ℕ, ◌+◌, ◌^◌, ◌<◌, ◌≤◌, eqb, true, cond, List, ◌∷◌, length, fold, refl, sym, ap, ◌∙◌, arith}
 use lib.Bits.{bit_or, or_add_and, and_le_r}
 use Rattle.std.proofs.lemmas.Bool.{cond-true, cond-false, eq-eqb, ne_eqb, or_left, or_right}
 use Rattle.std.proofs.lemmas.List.Sums.{sum_by-cons}
-use Rattle.complex.specs.Model.{Model, mask, write, Sorted, lay_one, lay, absent, mark_one, mark}
+use Rattle.complex.specs.Model.{mask, write, Sorted, lay_one, lay, absent, mark_one, mark}
 use Rattle.complex.specs.Simplex.{among, below, rises, Face, faces}
 use Rattle.complex.proofs.Faces.{rises_rising, listed_is_face, face_below, same_as_itself}
 use Rattle.complex.proofs.Lays.{lay_one_room}

@@ -1,14 +1,11 @@
 -- Writing the pairs of a record one after another, as two walks meet the bases.
-use Rattle.std.proofs.Common.{◌≡◌, ℕ, ◌+◌, ◌-◌, ◌<◌, true, false, List, [], ◌∷◌, ◌++◌, length, Some, None, Option, sym, refl, ap, ◌∙◌, subst, ap₂, append_assoc, append-nil, arith}
-use Rattle.std.specs.Option.{option_map}
-use Rattle.std.proofs.lemmas.Bool.{cond-false, leb-false, lt-leb}
-use Rattle.order.specs.Assoc.{later}
-use Rattle.complex.specs.Model.{Model, mask, Sorted, Legal}
-use Rattle.complex.specs.Simplex.{colex, less, plus}
+use Rattle.std.proofs.Common.{◌≡◌, ℕ, ◌+◌, ◌-◌, ◌<◌, true, false, List, [], ◌∷◌, ◌++◌, length, Some, None, sym, refl, ap, ◌∙◌, ap₂, append_assoc, append-nil, arith}
+use Rattle.std.proofs.lemmas.Bool.{leb-false, lt-leb}
+use Rattle.complex.specs.Model.{Model, mask, Legal}
+use Rattle.complex.specs.Simplex.{plus}
 use Rattle.collapse.specs.Laws.{Sound}
 use Rattle.collapse.specs.Split.{former, pairs_of}
 use Rattle.store.specs.Contents.{Contents, Stored}
-use Rattle.store.proofs.Walks.{all_later}
 use Rattle.trail.specs.Notes.{capacity, record_length, room_used, has_room}
 use Rattle.trail.specs.Past.{Past, pending, Paired}
 use Rattle.model.specs.Notes.{bases_without, merged_lists, head, past_base, lesser}

@@ -1,5 +1,5 @@
 -- The bases of a collapse, found by two walks over the model before it.
-use Rattle.std.specs.Prelude.{ℕ, cond, not, ◌&&◌, List, [], ◌∷◌, length, Some, None, Ok, Err, Option, Result}
+use Rattle.std.specs.Prelude.{ℕ, cond, List, [], ◌∷◌, length, Some, None, Ok, Err, Option, Result}
 use Rattle.std.specs.Ordering.{is_eq}
 use Rattle.order.specs.Assoc.{by, later}
 use Rattle.complex.specs.Model.{Model}

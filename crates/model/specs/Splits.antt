@@ -1,7 +1,7 @@
 -- A collapse taken back in a store: where the walk goes, and what it may rely on.
-use Rattle.std.specs.Prelude.{◌≡◌, ℕ, ◌+◌, ◌<◌, ◌≤◌, Bool, true, cond, not, ◌&&◌, List, [], ◌∷◌, length, filter, ◌==◌, bit_and}
+use Rattle.std.specs.Prelude.{◌≡◌, ℕ, ◌+◌, ◌<◌, ◌≤◌, true, cond, List, [], ◌∷◌, length, ◌==◌, bit_and}
 use Rattle.complex.specs.Model.{Model, mask}
-use Rattle.complex.specs.Simplex.{below, has, plus}
+use Rattle.complex.specs.Simplex.{below, plus}
 use Rattle.collapse.specs.Image.{collapse}
 use Rattle.collapse.specs.Laws.{Sound, Collapsible}
 use Rattle.collapse.specs.Link.{Base}

@@ -20,7 +20,9 @@ pub(crate) fn absent_faces<S: Store>(store: &S, s: &Simplex) -> usize
 pub(crate) fn unmarked_faces<S: Store>(store: &S, part: Part, s: &Simplex) -> usize
     ensures { result ≡ unmarked part.number (S.Store.contents store.now).model (faces (vertices s.now)) }
 {
-    s.faces().filter(|face| !part.is_in(store.look(face))).count()
+    s.faces()
+        .filter(|face| !part.is_in(store.look(face)))
+        .count()
 }
 
 // Puts every absent face, for which there is room.

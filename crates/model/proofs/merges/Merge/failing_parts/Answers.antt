@@ -1,4 +1,4 @@
-use Rattle.std.proofs.Common.{◌≡◌, ◌||◌, is_some, sym, ap, ◌∙◌, subst}
+use Rattle.std.proofs.Common.{◌≡◌, ◌||◌, is_some, ap, ◌∙◌, subst}
 use Rattle.complex.specs.Mask.{bit}
 use Rattle.complex.proofs.Masks.{bit_of_none}
 use Rattle.simplex.specs.Simplexes.{vertices}

@@ -4,7 +4,7 @@ use Rattle.std.proofs.lemmas.Bool.{cond-false}
 use Rattle.simplex.specs.Simplexes.{vertices_or_none}
 use Rattle.trail.specs.declared.refusal.TrailFull.{TrailFull}
 use Rattle.model.specs.Notes.{lesser}
-use Rattle.model.proofs.Noted.{Noted, noted_first, noted_on, fewer_left, no_room, all_noted}
+use Rattle.model.proofs.Noted.{noted_first, noted_on, fewer_left, no_room}
 use Rattle.model.proofs.merges.Merge.note.Goals as goal
 
 pub loop-base-init : goal.loop-base-init

@@ -16,6 +16,6 @@ returns g c =
     let s = vertices c.in_ok-simplex.simplex in
     let known = known_part c.in_ok-part.part.number c.args.part c.in_ok-part.ensures in
     rw (← c.self.view_is) (
-      marks before _ _ s _ _ c.if-part-eq0.false known.1 (g.S.Store.stored c.self.inside.store.now) c.self.invariant (invariant_of-self-2 g c) c.in_ok-simplex.ensures
-      (c.mark_simplex.ensures.value ∙ ap (λ p. mark_simplex before p s) known.0) (c.mark_simplex.ensures.after ∙ ap (λ p. marked_simplex before p s) known.0)
+    marks before _ _ s _ _ c.if-part-eq0.false known.1 (g.S.Store.stored c.self.inside.store.now) c.self.invariant (invariant_of-self-2 g c) c.in_ok-simplex.ensures
+    (c.mark_simplex.ensures.value ∙ ap (λ p. mark_simplex before p s) known.0) (c.mark_simplex.ensures.after ∙ ap (λ p. marked_simplex before p s) known.0)
     )
