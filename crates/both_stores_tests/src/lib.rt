@@ -13,10 +13,7 @@ mod tests {
 
     // A refusal by its number.
     fn numbered<T>(answer: Result<T, ModelRefusal>) -> Result<T, u8> {
-        match answer {
-            Ok(value) => Ok(value),
-            Err(refusal) => Err(refusal.number()),
-        }
+        answer.map_err(u8::from)
     }
 
     fn laid<S: Store>(draft: &mut Draft<'_, S>) -> [Result<usize, u8>; 10] {

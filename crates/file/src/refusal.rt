@@ -72,7 +72,7 @@ impl From<Cause> for u8 {
     fn from(cause: Cause) -> u8 {
         match cause {
             Cause::Flaw(flaw) => u8::from(flaw),
-            Cause::Model(refusal) => refusal.number(),
+            Cause::Model(refusal) => u8::from(refusal),
         }
     }
 }

@@ -29,7 +29,7 @@ mod tests {
     fn number(answer: Result<(), StoreRefusal>) -> u8 {
         match answer {
             Ok(()) => 0,
-            Err(refusal) => refusal.number(),
+            Err(refusal) => u8::from(refusal),
         }
     }
 

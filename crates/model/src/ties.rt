@@ -70,8 +70,6 @@ impl Merge {
 }
 
 // The search finds the smallest part and the first simplex that shows it, or the condition holds for the body and all parts.
-pub fn search_finds() -> u8
+pub fn search_finds()
     ensures { SearchFinds }
-{
-    0
-}
+{}

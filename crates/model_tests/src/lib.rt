@@ -8,23 +8,19 @@ mod tests {
     use order::record::Record;
     use simplex::simplex::Simplex;
     use std::process::Abort;
-    use std::test::Fail;
     use store::meaning::Store;
     use table_store::records::TableStore;
 
-    fn record() -> Result<Record<Simplex, u8>, Fail> {
-        match Simplex::of(&[0]) {
-            Some(key) => Ok(Record { key, value: 0 }),
-            None => Err(Fail::new("not a simplex")),
+    fn record() -> Record<Simplex, u8> {
+        Record {
+            key: Simplex::point(0),
+            value: 0,
         }
     }
 
     // A refusal by its number.
     fn numbered<T>(answer: Result<T, ModelRefusal>) -> Result<T, u8> {
-        match answer {
-            Ok(value) => Ok(value),
-            Err(refusal) => Err(refusal.number()),
-        }
+        answer.map_err(u8::from)
     }
 
     fn lay<S: Store>(draft: &mut Draft<'_, S>, list: &[u16]) -> Result<usize, u8> {
@@ -59,14 +55,13 @@ mod tests {
     }
 
     #[test]
-    fn a_tetrahedron_needs_fifteen_records(rt: HostRuntime) -> Result<(), Fail> {
-        let mut enough = [record()?; 15];
+    fn a_tetrahedron_needs_fifteen_records(rt: HostRuntime) {
+        let mut enough = [record(); 15];
         let mut store = TableStore::open(&mut enough);
         lone_tetrahedron(&rt, &mut store);
-        let mut short = [record()?; 14];
+        let mut short = [record(); 14];
         let mut store = TableStore::open(&mut short);
         no_tetrahedron(&rt, &mut store);
-        Ok(())
     }
 
     fn ring<S: Store>(rt: &impl Abort, store: &mut S) {
@@ -132,14 +127,13 @@ mod tests {
 
     // Each run opens a draft of its own, which empties the store.
     #[test]
-    fn shapes_one_after_another(rt: HostRuntime) -> Result<(), Fail> {
-        let mut records = [record()?; 40];
+    fn shapes_one_after_another(rt: HostRuntime) {
+        let mut records = [record(); 40];
         let mut store = TableStore::open(&mut records);
         ring(&rt, &mut store);
         hollow_tetrahedron(&rt, &mut store);
         five_tetrahedra(&rt, &mut store);
         marked_triangles(&rt, &mut store);
-        Ok(())
     }
 
     fn lay_refusals<S: Store>(rt: &impl Abort, store: &mut S) {
@@ -209,12 +203,11 @@ mod tests {
     }
 
     #[test]
-    fn refusals(rt: HostRuntime) -> Result<(), Fail> {
-        let mut records = [record()?; 4];
+    fn refusals(rt: HostRuntime) {
+        let mut records = [record(); 4];
         let mut store = TableStore::open(&mut records);
         lay_refusals(&rt, &mut store);
         mark_refusals(&rt, &mut store);
         question_refusals(&rt, &mut store);
-        Ok(())
     }
 }

@@ -47,7 +47,7 @@ impl From<ScriptRefusal> for u8 {
     fn from(refusal: ScriptRefusal) -> u8 {
         match refusal {
             ScriptRefusal::Line => 8,
-            ScriptRefusal::Model(refusal) => refusal.number(),
+            ScriptRefusal::Model(refusal) => u8::from(refusal),
             ScriptRefusal::Load(refusal) => u8::from(refusal),
         }
     }
