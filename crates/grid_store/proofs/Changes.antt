@@ -1,5 +1,5 @@
 -- A write at a place of the grid leaves a grid store a grid store.
-use Rattle.std.proofs.Common.{◌≡◌, ℕ, zero, suc, ◌+◌, ◌<◌, ◌≤◌, true, false, eqb, ◌⊎◌, List, [], ◌∷◌, length, get_or, take, set, Some, None, Option, sym, refl, ap, ◌∙◌, inl, inr, arith}
+use Rattle.std.proofs.Common.{◌≡◌, ℕ, zero, suc, ◌+◌, ◌<◌, ◌≤◌, true, false, eqb, ◌⊎◌, List, [], ◌∷◌, length, get_or, set, Some, None, Option, sym, refl, ap, ◌∙◌, inl, inr, arith}
 use Rattle.std.proofs.lemmas.List.{get_or-take, length-take-le}
 use Rattle.std.proofs.lemmas.Bool.{and_parts, and_from, cases_Bool, cond_both, eqb-false, lt-ltb}
 use Rattle.order.specs.Assoc.{bind, weigh}
@@ -11,11 +11,11 @@ use Rattle.complex.proofs.Writes.{write_keeps_order}
 use Rattle.store.specs.Contents.{fits}
 use Rattle.grid_store.specs.declared.grid.GridStore.{GridStore}
 use Rattle.grid_store.specs.Places.{vertex_range, places, simplex_at}
-use Rattle.grid_store.specs.Masks.{counts, masks_from}
-use Rattle.grid_store.specs.Stores.{contents, contents_stored, limit_at_most}
+use Rattle.grid_store.specs.Masks.{counts, grid_of, masks_from}
+use Rattle.grid_store.specs.Stores.{contents, contents_stored, limit_at_most, limit_of}
 use Rattle.grid_store.proofs.Chosen.{simplex_in_grid}
 use Rattle.grid_store.proofs.Emptied.{limit_lent}
-use Rattle.grid_store.proofs.Fronts.{front_of_write}
+use Rattle.grid_store.proofs.Fronts.{grid_of_write}
 use Rattle.grid_store.proofs.Masks.{lookup_masks, put_masks}
 
 counts_weighs : (s : List ℕ) (b : ℕ) → weigh (λ _ _. 1) s (present b) ≡ counts b
@@ -55,26 +55,26 @@ write_keeps_fit p (suc i) (x ∷ bs) m h b f = go (present x) (write_keeps_fit (
 
 module _ (g : GridStore) where
   abbrev grid : List ℕ
-  grid = take g.limit g.bytes.now
+  grid = grid_of g.bytes.now
 
-  pub grid_length : length grid ≡ g.limit
-  grid_length = length-take-le g.limit g.bytes.now (omega (arith, g.whole, limit_lent (length g.bytes.now)))
+  pub grid_length : length grid ≡ limit_of g
+  grid_length = length-take-le (limit_of g) g.bytes.now (omega (arith, limit_lent (length g.bytes.now)))
 
   pub grid_short : length grid ≤ places
-  grid_short = omega (arith, grid_length, g.whole, limit_at_most (length g.bytes.now))
+  grid_short = omega (arith, grid_length, limit_at_most (length g.bytes.now))
 
-  pub grid_byte : (p : ℕ) → p < g.limit → get_or grid p 0 ≡ get_or g.bytes.now p 0
-  grid_byte p l = get_or-take g.limit g.bytes.now p 0 l
+  pub grid_byte : (p : ℕ) → p < limit_of g → get_or grid p 0 ≡ get_or g.bytes.now p 0
+  grid_byte p l = get_or-take (limit_of g) g.bytes.now p 0 l
 
   pub held_short : g.held ≤ places
   held_short = omega (arith, g.counted, (contents_stored g).room, (contents_stored g).few)
 
-  module _ (p m : ℕ) (l : p < g.limit) where
+  module _ (p m : ℕ) (l : p < limit_of g) where
     abbrev written : Model
-    written = masks_from 0 (take g.limit (set g.bytes.now p m))
+    written = masks_from 0 (grid_of (set g.bytes.now p m))
 
     written_front : written ≡ masks_from 0 (set grid p m)
-    written_front = ap (masks_from 0) (front_of_write g.limit g.bytes.now p m)
+    written_front = ap (masks_from 0) (grid_of_write g.bytes.now p m)
 
     written_is : written ≡ write (contents g).model (simplex_at p) m
     written_is = written_front ∙ sym (put_masks 0 p p grid m (omega arith) (omega (arith, grid_length)) (omega (arith, grid_short)))

@@ -44,6 +44,10 @@ pub largest_found : (k r x : ℕ) → term k x ≤ r → largest k r (x + 1) ≡
 unfolding largest
 largest_found k r x h = ap (largest k r) (add-one x) ∙ cond-true _ _ _ (le-leb (term k x) r h)
 
+pub largest_none : (k r : ℕ) → largest k r 0 ≡ 0
+unfolding largest
+largest_none k r = refl
+
 -- s are rising vertices, before which each vertex below n may stand
 record Open (n : ℕ) (s : List ℕ) : Type 0 where
   rising : rises s ≡ true

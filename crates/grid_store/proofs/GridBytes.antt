@@ -1,11 +1,12 @@
 -- The bytes of the grid by simplexes: those with a place, and those with a vertex out of range, which are never held.
-use Rattle.std.proofs.Common.{◌≡◌, ℕ, suc, ◌+◌, ◌<◌, ◌≤◌, true, false, eqb, ltb, ◌⊎◌, List, [], ◌∷◌, length, get_or, drop, set, Some, None, Ordering, Less, Equal, Greater, unwrap_or, sym, refl, ap, ◌∙◌, inl, inr, arith}
+use Rattle.std.proofs.Common.{◌≡◌, ℕ, suc, ◌+◌, ◌<◌, ◌≤◌, true, false, ltb, ◌⊎◌, List, [], ◌∷◌, length, get_or, drop, set, Some, None, Ordering, Less, Equal, Greater, unwrap_or, sym, refl, ap, ◌∙◌, inl, inr, arith}
 use Rattle.std.specs.Ordering.{ordering_then, nat_cmp}
-use Rattle.std.proofs.lemmas.Bool.{and_parts, and_from, both_ways, cases_Bool, cases_lt, cases_order, cond-true, cond-false, ltb-true, lt-ltb, eqb-true}
+use Rattle.std.proofs.lemmas.Bool.{and_parts, and_from, both_ways, cases_Bool, cases_lt, cases_order, cond-true, cond-false, ltb-true, lt-ltb}
 use Rattle.order.specs.Assoc.{by, lookup, put, later}
 use Rattle.complex.specs.Model.{Model, mask, present, write}
 use Rattle.complex.specs.Simplex.{colex, rises, proper, below}
 use Rattle.complex.proofs.Order.{colex_exact}
+use Rattle.complex.proofs.Writes.{value_present}
 use Rattle.store.specs.Contents.{fits}
 use Rattle.store.proofs.Walks.{fit_parts}
 use Rattle.grid_store.specs.Places.{vertex_range, places, first_place, place, past, simplex_at}
@@ -14,13 +15,6 @@ use Rattle.grid_store.specs.Laws.{InGrid}
 use Rattle.grid_store.proofs.Order.{proper_parts, fewer_first, sizes_rise, place_below, place_in_grid}
 use Rattle.grid_store.proofs.Chosen.{simplex_in_grid, simplex_of_place, place_of_simplex}
 use Rattle.grid_store.proofs.Masks.{rank_less, lookup_masks, put_masks, later_place, later_between}
-
-value_present : (m : ℕ) → unwrap_or (present m) 0 ≡ m
-value_present m = go (cases_Bool (eqb m 0))
-  where
-    go : (eqb m 0 ≡ true) ⊎ (eqb m 0 ≡ false) → unwrap_or (present m) 0 ≡ m
-    go (inl e) = rw e (sym (eqb-true m 0 e))
-    go (inr e) = rw e refl
 
 module _ (s : List ℕ) (g : InGrid s) (bs : List ℕ) (room : length bs ≤ places) where
   -- the mask of a simplex is the byte at its place

@@ -5,6 +5,7 @@ pub mod Chosen
 pub mod Masks
 pub mod GridBytes
 pub mod Fronts
+pub mod FirstHeld
 pub mod Finding
 pub mod Emptied
 pub mod Changes

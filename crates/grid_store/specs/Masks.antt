@@ -32,6 +32,10 @@ abbrev pub marked : Option ℕ → ℕ → List ℕ → List ℕ
 marked None m bs = bs
 marked (Some p) m bs = slice_set bs p m
 
--- what a store with this limit holds over its bytes
-abbrev pub contents_over : ℕ → List ℕ → Contents
-contents_over limit bs = record { model = masks_from 0 (take limit bs); limit = limit; range = vertex_range }
+-- the bytes of the grid
+abbrev pub grid_of : List ℕ → List ℕ
+grid_of bs = take (limit_over (length bs)) bs
+
+-- what a store holds over its bytes
+abbrev pub contents_over : List ℕ → Contents
+contents_over bs = record { model = masks_from 0 (grid_of bs); limit = limit_over (length bs); range = vertex_range }

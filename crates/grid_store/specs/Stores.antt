@@ -1,5 +1,5 @@
 -- What a grid store holds, and that it is what every store holds.
-use Rattle.std.specs.Prelude.{ℕ, suc, ◌≤◌, List, [], ◌∷◌, length, take, Some, None, Option, nat_lt}
+use Rattle.std.specs.Prelude.{ℕ, suc, ◌≤◌, List, [], ◌∷◌, length, Some, None, Option, nat_lt}
 use Rattle.std.proofs.Common.{arith}
 use Rattle.std.proofs.lemmas.List.{length-take}
 use Rattle.std.proofs.lemmas.Bool.{cond_both}
@@ -8,10 +8,13 @@ use Rattle.complex.specs.Model.{present}
 use Rattle.store.specs.Contents.{Contents, Stored}
 use Rattle.grid_store.specs.declared.grid.GridStore.{GridStore}
 use Rattle.grid_store.specs.Places.{places, simplex_at}
-use Rattle.grid_store.specs.Masks.{masks_from, limit_over, contents_over}
+use Rattle.grid_store.specs.Masks.{masks_from, grid_of, limit_over, contents_over}
 
 abbrev pub contents : GridStore → Contents
-contents g = contents_over g.limit g.bytes.now
+contents g = contents_over g.bytes.now
+
+abbrev pub limit_of : GridStore → ℕ
+limit_of g = limit_over (length g.bytes.now)
 
 -- at most one simplex for each byte
 masks_few : (p : ℕ) (bs : List ℕ) → length (masks_from p bs) ≤ length bs
@@ -30,7 +33,7 @@ contents_stored g =
     record {
       sorted = g.sorted;
       fit = g.fit;
-      room = omega (arith, masks_few 0 (take g.limit g.bytes.now), length-take g.limit g.bytes.now);
-      few = omega (arith, g.whole, limit_at_most (length g.bytes.now));
+      room = omega (arith, masks_few 0 (grid_of g.bytes.now), length-take (limit_of g) g.bytes.now);
+      few = omega (arith, limit_at_most (length g.bytes.now));
       narrow = omega arith;
     }

@@ -1,3 +1,4 @@
+// The grid over the caller's bytes.
 pub mod bytes;
 pub mod methods;
 
@@ -5,16 +6,14 @@ ghost use Rattle.std.specs.Prelude.{◌≡◌, true, length};
 ghost use Rattle.complex.specs.Model.{Sorted};
 ghost use Rattle.store.specs.Contents.{fits};
 ghost use Rattle.grid_store.specs.Places.{vertex_range};
-ghost use Rattle.grid_store.specs.Masks.{contents_over, limit_over};
+ghost use Rattle.grid_store.specs.Masks.{contents_over};
 
-// The grid over the caller's bytes, with the number of simplexes held. A limit of 0 says that there are too few bytes.
+// The caller's bytes, the first 41,448 of which are the grid, with the number of simplexes held. Fewer bytes hold none.
 #[derive(Drop)]
 pub struct GridStore<'a> {
     bytes: &'a mut [u8],
     held: usize,
-    limit: usize,
-    ghost whole: { limit ≡ limit_over (length bytes.now) },
-    ghost counted: { held ≡ length (contents_over limit bytes.now).model },
-    ghost sorted: { Sorted (contents_over limit bytes.now).model },
-    ghost fit: { fits vertex_range (contents_over limit bytes.now).model ≡ true },
+    ghost counted: { held ≡ length (contents_over bytes.now).model },
+    ghost sorted: { Sorted (contents_over bytes.now).model },
+    ghost fit: { fits vertex_range (contents_over bytes.now).model ≡ true },
 }

@@ -93,16 +93,17 @@ fn size_at(p: usize) -> usize
     }
 }
 
-// The largest vertex below n whose k-th term is at most r.
+// The largest vertex below n whose k-th term is at most r; 0 if there is none.
 fn largest(k: usize, r: usize, n: u16) -> u16
-    requires { (1 ≤ k) × (k ≤ 4) × (n ≤ vertex_range) × (r < term k n) }
+    requires { (1 ≤ k) × (k ≤ 4) × (n ≤ vertex_range) }
     ensures { result ≡ largest k r n }
 {
-    let mut x = n - 1;
-    while term(k, x) > r {
-        x -= 1;
+    for x in (0..n).rev() {
+        if term(k, x) <= r {
+            return x;
+        }
     }
-    x
+    0
 }
 
 // The simplex at a place. The last vertex is found first; each is the largest whose term is within what is left of the place.
@@ -112,21 +113,17 @@ pub(crate) fn simplex_at(p: usize) -> Option<Simplex>
 {
     let size = size_at(p);
     let mut vertices = [0; 4];
-    let mut k = size;
     let mut rest = p - first_place(size);
-    let mut n = RANGE;
-    while k > 0 {
-        n = largest(k, rest, n);
-        rest -= term(k, n);
-        k -= 1;
-        vertices[k] = n;
+    let mut last = RANGE;
+    for k in (0..size).rev() {
+        last = largest(k + 1, rest, last);
+        rest -= term(k + 1, last);
+        vertices[k] = last;
     }
-    Simplex::of(&vertices[..size])
+    Simplex::try_from(&vertices[..size]).ok()
 }
 
 // The places number the simplexes in range, one to one and in their order.
-pub fn places_number_simplexes() -> u8
+pub fn places_number_simplexes()
     ensures { PlacesNumberSimplexes }
-{
-    0
-}
+{}

@@ -5,24 +5,13 @@
 mod tests {
     use grid_store::grid::GridStore;
     use simplex::simplex::Simplex;
-    use std::cmp::Ordering;
     use std::process::Abort;
     use std::test::Fail;
     use store::meaning::Store;
     use store::refusal::StoreRefusal;
 
     fn simplex(list: &[u16]) -> Result<Simplex, Fail> {
-        match Simplex::of(list) {
-            Some(s) => Ok(s),
-            None => Err(Fail::new("not a simplex")),
-        }
-    }
-
-    fn is(found: Option<Simplex>, s: &Simplex) -> bool {
-        match found {
-            Some(t) => t.cmp(s) == Ordering::Equal,
-            None => false,
-        }
+        Simplex::try_from(list).map_err(|_| Fail::new("not a simplex"))
     }
 
     // The number of a refusal, 0 where there is none.
@@ -81,7 +70,7 @@ mod tests {
         let mut last = None;
         for s in list {
             let next = store.after(last);
-            assert!(rt; is(next, s));
+            assert_eq!(rt; next, Some(*s));
             assert_eq!(rt; store.look(s), 255);
             last = next;
         }
@@ -126,7 +115,7 @@ mod tests {
             (0, 0)
         );
         assert_eq!(rt; (store.look(&outside), store.held()), (0, 2));
-        assert!(rt; is(store.after(Some(outside)), &triangle));
+        assert_eq!(rt; store.after(Some(outside)), Some(triangle));
         Ok(())
     }
 

@@ -52,9 +52,8 @@ impl fmt::Display for ScriptRefusal {
 pub fn push_line(text: &mut String, answer: &Answer) -> Result<(), AllocError>
     ensures { OnOk result (string_bytes text.new ≡ string_bytes text.old ++ line_of answer.now) }
 {
-    let written = match answer {
+    match answer {
         Ok(reply) => writeln!(text, "{reply}"),
         Err(refusal) => writeln!(text, "{refusal}"),
-    };
-    written.map_err(|_| AllocError)
+    }
 }

@@ -1,11 +1,11 @@
 // Opening a grid store over lent bytes, and what it finds in them and writes into them.
-ghost use Rattle.std.specs.Prelude.{◌≡◌, ◌<◌, [], length, take, drop, slice_set};
+ghost use Rattle.std.specs.Prelude.{◌≡◌, ◌<◌, ◌==◌, [], length, drop, not, position, slice_set};
 ghost use Rattle.order.specs.Assoc.{first};
 ghost use Rattle.simplex.specs.Simplexes.{vertices, found};
 ghost use Rattle.store.specs.Puts.{put_answer};
 ghost use Rattle.grid_store.specs.Places.{vertex_range};
-ghost use Rattle.grid_store.specs.Masks.{counts, masks_from, emptied, limit_over, placed};
-ghost use Rattle.grid_store.specs.Stores.{contents};
+ghost use Rattle.grid_store.specs.Masks.{counts, masks_from, emptied, grid_of, limit_over, placed};
+ghost use Rattle.grid_store.specs.Stores.{contents, limit_of};
 
 use crate::grid::GridStore;
 use crate::places::{PLACES, RANGE, place, simplex_at};
@@ -24,7 +24,14 @@ fn limit_over(len: usize) -> usize
 fn counts(byte: u8) -> usize
     ensures { result ≡ counts byte }
 {
-    if byte == 0 { 0 } else { 1 }
+    usize::from(byte != 0)
+}
+
+// The place of the first byte that holds a simplex.
+fn first_set(bytes: &[u8]) -> Option<usize>
+    ensures { result ≡ position (λ byte. not (byte == 0)) bytes.now }
+{
+    bytes.iter().position(|byte| *byte != 0)
 }
 
 impl<'a> GridStore<'a> {
@@ -35,28 +42,30 @@ impl<'a> GridStore<'a> {
         ensures lender { result.bytes.ghost_name ≡ bytes.entry.ghost_name }
     {
         let limit = limit_over(bytes.len());
-        for i in 0..limit {
-            bytes[i] = 0;
-        }
-        GridStore {
-            bytes,
-            held: 0,
-            limit,
-        }
+        bytes[..limit].fill(0);
+        GridStore { bytes, held: 0 }
+    }
+
+    // The bytes of the grid, one for each place, or none.
+    pub(crate) fn grid(&self) -> &[u8]
+        ensures { result.now ≡ grid_of self.now.bytes.now }
+    {
+        &self.bytes[..limit_over(self.bytes.len())]
     }
 
     // The place of a simplex, if the grid has one for it.
     pub(crate) fn find(&self, s: &Simplex) -> Option<usize>
-        ensures { result ≡ placed self.now.limit (vertices s.now) }
+        ensures { result ≡ placed (limit_of self.now) (vertices s.now) }
     {
-        if self.limit > 0 && s.within(RANGE) {
+        if self.limit() > 0 && s.within(RANGE) {
             Some(place(s))
         } else {
             None
         }
     }
 
-    // What a put answers.
+    // What a put answers. The table store asks the same in the same order; one function over every store would call back into
+    // the block of its `put`, and such a cycle gets no proof.
     pub(crate) fn admit(&self, s: &Simplex, mask: u8) -> Result<(), StoreRefusal>
         ensures { result ≡ put_answer (contents self.now) (vertices s.now) mask }
     {
@@ -64,7 +73,7 @@ impl<'a> GridStore<'a> {
             Ok(())
         } else if !s.within(RANGE) {
             Err(StoreRefusal::Range)
-        } else if self.look(s) == 0 && self.held == self.limit {
+        } else if self.look(s) == 0 && self.held == self.limit() {
             Err(StoreRefusal::Full)
         } else {
             Ok(())
@@ -73,9 +82,8 @@ impl<'a> GridStore<'a> {
 
     // Writes the byte at a place, and keeps count.
     pub(crate) fn write(&mut self, p: usize, mask: u8)
-        requires { p < self.old.limit }
+        requires { p < limit_of self.old }
         ensures bytes { self.new.bytes.now ≡ slice_set self.old.bytes.now p mask }
-        ensures limit { self.new.limit ≡ self.old.limit }
         ensures lender { self.new.bytes.ghost_name ≡ self.old.bytes.ghost_name }
     {
         let held = self.held + counts(mask) - counts(self.bytes[p]);
@@ -85,13 +93,9 @@ impl<'a> GridStore<'a> {
 
     // The first simplex held from a place on.
     pub(crate) fn first_from(&self, from: usize) -> Option<Simplex>
-        ensures { found result ≡ first (masks_from from (drop from (take self.now.limit self.now.bytes.now))) }
+        ensures { found result ≡ first (masks_from from (drop from (grid_of self.now.bytes.now))) }
     {
-        for p in from..self.limit {
-            if self.bytes[p] != 0 {
-                return simplex_at(p);
-            }
-        }
-        None
+        let later = self.grid().get(from..)?;
+        simplex_at(from + first_set(later)?)
     }
 }

@@ -3,7 +3,7 @@ ghost use Rattle.std.specs.Prelude.{◌≡◌};
 ghost use Rattle.simplex.specs.Simplexes.{vertices};
 ghost use Rattle.store.specs.Puts.{put_answer, put_next, settled};
 ghost use Rattle.grid_store.specs.Masks.{placed, marked};
-ghost use Rattle.grid_store.specs.Stores.{contents, contents_stored};
+ghost use Rattle.grid_store.specs.Stores.{contents, contents_stored, limit_of};
 
 use crate::grid::GridStore;
 use crate::places::{RANGE, past};
@@ -37,7 +37,7 @@ impl<'a> Store for GridStore<'a> {
     }
 
     fn limit(&self) -> usize {
-        self.limit
+        self.grid().len()
     }
 
     fn range(&self) -> u16 {
@@ -47,7 +47,7 @@ impl<'a> Store for GridStore<'a> {
     fn put(&mut self, s: Simplex, mask: u8) -> Result<(), StoreRefusal>
         ensures value { result ≡ put_answer (contents self.old) (vertices s) mask }
         ensures after { contents self.new ≡ put_next (contents self.old) (vertices s) mask }
-        ensures bytes { self.new.bytes.now ≡ settled result self.old.bytes.now (marked (placed self.old.limit (vertices s)) mask self.old.bytes.now) }
+        ensures bytes { self.new.bytes.now ≡ settled result self.old.bytes.now (marked (placed (limit_of self.old) (vertices s)) mask self.old.bytes.now) }
         ensures lender { self.new.bytes.ghost_name ≡ self.old.bytes.ghost_name }
     {
         self.admit(&s, mask)?;

@@ -68,6 +68,8 @@ impl<'a> Store for TableStore<'a> {
         ensures refused { is_err result ≡ true → self.new.table.records.now ≡ self.old.table.records.now }
         ensures surplus { drop self.old.limit self.new.table.records.now ≡ drop self.old.limit self.old.table.records.now }
     {
+        // The grid store asks the same in the same order; one function over every store would call back into this block, and
+        // such a cycle gets no proof.
         if mask == 0 {
             self.table.remove(&s);
             return Ok(());

@@ -1,30 +1,27 @@
-use Rattle.std.proofs.Common.{take, sym, ap, ◌∙◌, arith}
-use Rattle.std.proofs.lemmas.List.{at_drop_all}
+-- The first byte that is set tells the first simplex that is held.
+use Rattle.std.proofs.Common.{◌≡◌, ℕ, ◌+◌, List, length, drop, Option, sym, ap, ◌∙◌, arith}
+use Rattle.std.proofs.lemmas.Slice.{between_to_end}
+use Rattle.std.specs.List.{position, slice_range}
+use Rattle.std.specs.Option.{option_map}
+use Rattle.simplex.specs.Simplexes.{found}
 use Rattle.order.specs.Assoc.{first}
+use Rattle.grid_store.specs.Places.{simplex_at}
 use Rattle.grid_store.specs.Masks.{masks_from}
-use Rattle.grid_store.proofs.Changes.{grid_length, grid_byte}
-use Rattle.grid_store.proofs.Masks.{nothing_here, simplex_here}
+use Rattle.grid_store.proofs.FirstHeld.{is_set, first_held}
 use Rattle.grid_store.proofs.grid.GridStore.first_from.Goals as goal
 
-pub returns-then-self-p-ne0 : goal.returns-then-self-p-ne0
-returns-then-self-p-ne0 c =
-    let g = c.args.self.now in
-    let p = c.loop-p.p in
-    let grid = take g.limit g.bytes.now in
-    let some = simplex_here p grid (omega (arith, c.loop-p-test.true, grid_length g)) (λ e. c.if-self-p-ne0.true (sym (grid_byte g p c.loop-p-test.true) ∙ e)) in
-    c.simplex_at.ensures ∙ sym some ∙ c.loop-p.invariant
+-- what the place of the first byte that is set, in the bytes from a place on, tells
+held_at : (from : ℕ) (grid bytes later : List ℕ) (o r : Option ℕ) → grid ≡ bytes → later ≡ slice_range grid from (length grid) → o ≡ position is_set later → o ≡ r → option_map (λ i. simplex_at (from + i)) r ≡ first (masks_from from (drop from bytes))
+held_at from grid bytes later o r whole rest is at =
+    let same = rest ∙ between_to_end grid from (length grid) (omega arith) ∙ ap (drop from) whole in
+    ap (option_map (λ i. simplex_at (from + i))) (sym at ∙ is ∙ ap (position is_set) same) ∙ sym (first_held from (drop from bytes))
 
-pub loop-p-preserved : goal.loop-p-preserved
-loop-p-preserved c =
-    let g = c.args.self.now in
-    let p = c.loop-p.p in
-    let grid = take g.limit g.bytes.now in
-    let none = nothing_here p grid (omega (arith, c.loop-p-test.true, grid_length g)) (grid_byte g p c.loop-p-test.true ∙ c.if-self-p-ne0.false) in
-    ap first (sym none) ∙ c.loop-p.invariant
+pub returns-in_err-first_set : goal.returns-in_err-first_set
+returns-in_err-first_set c =
+    ap found c.from_residual-in_err-first_set.ensures
+    ∙ held_at c.args.from c.grid.result.now _ c.in_ok-later.later.now c.first_set.result _ c.grid.ensures c.in_ok-later.ensures.lookup.0.2 c.first_set.ensures c.in_err-first_set.was
 
 pub returns : goal.returns
 returns c =
-    let g = c.args.self.now in
-    let p = c.loop-p.p in
-    let grid = take g.limit g.bytes.now in
-    sym (at_drop_all (λ bs. first (masks_from p bs)) grid p (omega (arith, c.loop-p-test.false, grid_length g))) ∙ c.loop-p.invariant
+    c.simplex_at.ensures
+    ∙ held_at c.args.from c.grid.result.now _ c.in_ok-later.later.now c.first_set.result _ c.grid.ensures c.in_ok-later.ensures.lookup.0.2 c.first_set.ensures c.in_ok-first_set.was

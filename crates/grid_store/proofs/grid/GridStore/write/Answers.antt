@@ -1,6 +1,4 @@
-use Rattle.std.proofs.Common.{sym, ap, ◌∙◌, arith}
-use Rattle.std.proofs.lemmas.List.{length-set}
-use Rattle.grid_store.specs.Masks.{limit_over}
+use Rattle.std.proofs.Common.{arith}
 use Rattle.grid_store.proofs.Changes.{counts_one, held_short, written_count, written_sorted, written_fits}
 use Rattle.grid_store.proofs.grid.GridStore.write.Goals as goal
 
@@ -16,7 +14,6 @@ invariant_of-self c =
     let p = c.args.p in
     let m = c.args.mask in
     record {
-      whole = g.whole ∙ ap limit_over (sym (length-set g.bytes.now p m));
       counted = omega (arith, c.counts.ensures, c.counts-2.ensures, written_count g p m c.requires);
       sorted = written_sorted g p m c.requires;
       fit = written_fits g p m c.requires (omega (arith, c.ranges.mask));

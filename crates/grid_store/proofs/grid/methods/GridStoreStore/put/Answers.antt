@@ -1,4 +1,4 @@
-use Rattle.std.proofs.Common.{refl, ap, ◌∙◌, ap₂}
+use Rattle.std.proofs.Common.{refl, ap, ◌∙◌}
 use Rattle.grid_store.specs.Masks.{marked, contents_over}
 use Rattle.grid_store.proofs.Placed.{placed_some, placed_written, unplaced_kept}
 use Rattle.grid_store.proofs.grid.methods.GridStoreStore.put.Goals as goal
@@ -12,7 +12,7 @@ returns-in-Some c =
     let at = c.in-Some.ensures in
     record {
       value = value;
-      after = ap₂ contents_over c.write.ensures.limit c.write.ensures.bytes ∙ placed_written c.args.self.now c.args.s c.in-Some.p at c.args.mask value;
+      after = ap contents_over c.write.ensures.bytes ∙ placed_written c.args.self.now c.args.s c.in-Some.p at c.args.mask value;
       bytes = c.write.ensures.bytes ∙ ap (λ o. marked o c.args.mask c.args.self.now.bytes.now) at;
       lender = c.write.ensures.lender;
     }
