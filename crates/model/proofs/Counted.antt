@@ -31,23 +31,6 @@ pub record Counting (p : ℕ) (M : Model) (left : List (List ℕ)) (up down : �
   pub rising : up + ups p M left ≡ total (counts_up p) M
   pub falling : down + downs p M left ≡ total (counts_down p) M
 
-odd_rest : (n : ℕ) → odd n ≡ eqb (n % 2) 1
-odd_rest zero = refl
-odd_rest (suc zero) = refl
-odd_rest (suc (suc n)) = twice (odd n) ∙ odd_rest n ∙ ap (λ r. eqb r 1) (let e : n % 2 ≡ suc (suc n) % 2 = omega arith in e)
-  where
-    twice : (b : Bool) → not (not b) ≡ b
-    twice true = refl
-    twice false = refl
-
--- one simplex further: it is in the part, and odd, or even, or it is not in the part
-pub counted_on : (p : ℕ) (M : Model) (k : List ℕ) (left : List (List ℕ)) (up down : ℕ) → Counting p M (k ∷ left) up down →
-    Counting p M left (up + counts_up p k (mask M k)) (down + counts_down p k (mask M k))
-counted_on p M k left up down on = record {
-  rising = omega (arith, on.rising, sum_by-cons (λ k. counts_up p k (mask M k)) k left);
-  falling = omega (arith, on.falling, sum_by-cons (λ k. counts_down p k (mask M k)) k left);
-}
-
 -- all are left at first
 pub counting_first : (p : ℕ) (c : Contents) → Stored c → Counting p c.model (keys c.model) 0 0
 counting_first p c stored = record { rising = whole (counts_up p); falling = whole (counts_down p) }

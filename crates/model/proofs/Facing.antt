@@ -10,7 +10,7 @@ use Rattle.complex.proofs.Lays.{lay_one_room}
 use Rattle.complex.proofs.Marks.{mark_one_holds}
 use Rattle.store.specs.Contents.{Contents, holding}
 use Rattle.store.specs.Puts.{put_next}
-use Rattle.model.specs.Changes.{put_accepted}
+use Rattle.model.proofs.Changes.{put_accepted}
 
 -- each of these is a face of s
 abbrev AllFaces : List ℕ → List (List ℕ) → Type 0

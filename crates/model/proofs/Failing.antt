@@ -98,14 +98,6 @@ some_from_here_on u f k ks p old new all e inv =
     regrouped : (on o n b x y : Bool) → on ≡ (o || n) → n ≡ b → y ≡ (b || x) → (on || x) ≡ (o || y)
     regrouped on o n b x y i e j = grind arith
 
--- the bits are all that is told where no simplex is left
-pub told_at_end : (u : ℕ) (f : List ℕ → Bool) (ks : List (List ℕ)) (b all : Bool) → ks ≡ [] → (b || is_some (first_among u f ks)) ≡ all → b ≡ all
-told_at_end u f ks b all e h = sym (or_none b) ∙ ap (λ x. b || is_some (first_among u f x)) (sym e) ∙ h
-  where
-    or_none : (b : Bool) → (b || false) ≡ b
-    or_none true = refl
-    or_none false = refl
-
 pub is_none : (o : Option (List ℕ)) → is_some o ≡ false → o ≡ None
 is_none None h = refl
 is_none (Some s) h = cc

@@ -8,3 +8,5 @@ pub mod Merging
 pub mod Passing
 pub mod Splitting
 pub mod Facing
+pub mod Changes
+pub mod Sizes

@@ -22,7 +22,7 @@ use Rattle.store.specs.Contents.{Contents, holding, Stored}
 use Rattle.store.specs.Puts.{put_next}
 use Rattle.store.proofs.Walks.{walk_shorter, walk_ends}
 use Rattle.model.specs.Merges.{join, merge_one}
-use Rattle.model.specs.Changes.{put_accepted}
+use Rattle.model.proofs.Changes.{put_accepted}
 use Rattle.history.proofs.Fitted.{fits_shaped, fits_ranged, fits_positive}
 
 -- the vertices stay in range

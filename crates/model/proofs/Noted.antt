@@ -75,13 +75,3 @@ module _ (u v : ℕ) (M : Model) (before now : Past) (n : ℕ) (xs ys : List (Li
         let l = ap length left_over_step in
         let small = leb-false (record_length (n + 1)) (capacity - room_used now.notes) full in
         ap (λ ns. has_room ns (length (pairs_of u v M))) (sym noted.kept) ∙ lt-leb (record_length (length (pairs_of u v M))) (capacity - room_used now.notes) (omega arith)
-
-  -- where no base is left, all pairs are written
-  pub all_noted : None ≡ lesser (head xs) (head ys) → (n ≡ length (pairs_of u v M)) × (pending now n ≡ pairs_of u v M)
-  all_noted none = (omega (arith, noted.count, ap length (nothing xs ys none)), sym (append-nil (pending now n)) ∙ ap (λ ps. pending now n ++ ps) (sym (nothing xs ys none)) ∙ noted.pairs)
-    where
-      nothing : (xs ys : List (List ℕ)) → None ≡ lesser (head xs) (head ys) → left_over u v M xs ys ≡ []
-      nothing [] [] h = refl
-      nothing [] (y ∷ ys) h = cc
-      nothing (x ∷ xs) [] h = cc
-      nothing (x ∷ xs) (y ∷ ys) h = cc

@@ -27,7 +27,7 @@ use Rattle.trail.specs.Notes.{Note}
 use Rattle.trail.specs.Questions.{newest_pair}
 use Rattle.model.specs.Sides.{one_sided, sided, first_sided}
 use Rattle.model.specs.Splits.{newest_pairs, one_held, Takes, SplitsAt, Undoes}
-use Rattle.model.specs.Changes.{put_accepted}
+use Rattle.model.proofs.Changes.{put_accepted}
 use Rattle.history.proofs.Fitted.{fits_shaped, fits_ranged}
 use Rattle.model.proofs.Passing.{later_put, passing_rising, passing_later, passing_put}
 

@@ -1,7 +1,7 @@
 use Rattle.std.proofs.Common.{◌<◌, rules}
 use Rattle.complex.specs.Model.{mask}
 use Rattle.simplex.specs.Simplexes.{vertices}
-use Rattle.model.specs.Changes.{faces_held}
+use Rattle.model.proofs.Changes.{faces_held}
 use Rattle.model.proofs.edits.mark_simplex.Goals as goal
 
 pub mark_faces-requires : goal.mark_faces-requires

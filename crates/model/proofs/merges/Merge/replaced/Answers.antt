@@ -2,13 +2,12 @@ use Rattle.std.proofs.Common.{ap, ◌∙◌}
 use Rattle.complex.specs.Simplex.{plus}
 use Rattle.simplex.specs.Simplexes.{vertices}
 use Rattle.model.proofs.Merging.{replaced_is_made, fitted_is}
-use Rattle.model.specs.Walked.{some_corner, four_at_most}
+use Rattle.model.proofs.Sizes.{some_vertex, four_at_most}
 use Rattle.model.proofs.merges.Merge.replaced.Goals as goal
 
 pub unwrap-requires : goal.unwrap-requires
 unwrap-requires c =
-    let shape = c.args.t.now.shape in
-    replaced_is_made c.args.self.u c.args.self.v (vertices c.args.t.now) (vertices c.in-Some.rest) c.with.result c.requires (some_corner shape) (four_at_most shape) c.in-Some.ensures c.with.ensures
+    replaced_is_made c.args.self.u c.args.self.v (vertices c.args.t.now) (vertices c.in-Some.rest) c.with.result c.requires (some_vertex c.args.t.now) (four_at_most c.args.t.now) c.in-Some.ensures c.with.ensures
 
 pub returns-in-Some : goal.returns-in-Some
 returns-in-Some c =

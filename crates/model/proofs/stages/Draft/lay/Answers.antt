@@ -1,5 +1,5 @@
 use Rattle.simplex.specs.Simplexes.{vertices}
-use Rattle.model.specs.Changes.{lays, laid_keeps_legal}
+use Rattle.model.proofs.Changes.{lays, laid_keeps_legal}
 use Rattle.model.proofs.stages.Draft.lay.Goals as goal
 
 pub invariant_of-self-2 : goal.invariant_of-self-2

@@ -1,7 +1,7 @@
 use Rattle.std.proofs.Common.{ap, ◌∙◌}
 use Rattle.simplex.specs.Simplexes.{vertices}
 use Rattle.model.specs.Calls.{mark_simplex, marked_simplex}
-use Rattle.model.specs.Changes.{marks, known_part, marked_keeps_legal}
+use Rattle.model.proofs.Changes.{marks, known_part, marked_keeps_legal}
 use Rattle.model.proofs.stages.Draft.mark.Goals as goal
 
 pub invariant_of-self-2 : goal.invariant_of-self-2

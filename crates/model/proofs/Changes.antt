@@ -1,25 +1,20 @@
--- What single puts and whole edits come to, over what a store holds.
-use Rattle.std.specs.Prelude.{◌≡◌, ℕ, zero, suc, ◌+◌, ◌^◌, ◌<◌, ◌≤◌, Bool, true, false, cond, not, ◌&&◌, List, ◌∷◌, length, take, drop, Some, None, Ok, Err, fold, Option, Result, ◌==◌, ◌≢◌, bit_or, nat_le, nat_lt, refl}
+-- What single puts, a lay and a mark come to, over what a store holds.
+use Rattle.std.specs.Prelude.{◌≡◌, ℕ, zero, suc, ◌+◌, ◌<◌, ◌≤◌, Bool, true, false, cond, not, ◌&&◌, List, length, Some, None, Ok, Err, Result, ◌==◌, ◌≢◌, nat_le, nat_lt, refl}
 use Rattle.std.proofs.Common.{sym, ap, subst, ◌∙◌, arith}
-use Rattle.std.specs.Int.Bits.{or_add_and}
-use Rattle.std.proofs.lemmas.Nat.{and_le_r}
-use Rattle.std.proofs.lemmas.List.Sums.{sum_by-cons}
-use Rattle.std.proofs.lemmas.Bool.{and_parts, and_from, cond-true, cond-false, eqb-true, eq-eqb, ne_eqb, le-leb, lt-ltb, ltb-true, not_from_true}
-use Rattle.complex.specs.Model.{Model, mask, write, Sorted, Legal, lay_one, lay, Laid, absent, mark_one, mark, Marked, unmarked}
+use Rattle.std.proofs.lemmas.Bool.{and_parts, and_from, cond-true, cond-false, eqb-true, ne_eqb, le-leb, lt-ltb, ltb-true, not_from_true}
+use Rattle.complex.specs.Model.{Model, mask, write, Legal, lay, Laid, absent, mark, Marked, unmarked}
 use Rattle.complex.specs.Simplex.{proper, below, rises, Rising, Face, faces}
-use Rattle.complex.proofs.Faces.{rises_rising, told, faces_distinct, listed_is_face, face_below}
-use Rattle.complex.proofs.Lays.{lay_changes, lay_keeps_legal, lay_one_room, lays_add_the_absent}
-use Rattle.complex.proofs.Marks.{mark_changes, mark_keeps_legal, mark_one_holds, marks_add_none}
+use Rattle.complex.proofs.Faces.{rises_rising, told, faces_distinct, listed_is_face}
+use Rattle.complex.proofs.Lays.{lay_changes, lay_keeps_legal, lays_add_the_absent}
+use Rattle.complex.proofs.Marks.{mark_changes, mark_keeps_legal, marks_add_none}
 use Rattle.complex.proofs.Masks.{bit_holds}
-use Rattle.simplex.specs.Simplexes.{nth, checked}
+use Rattle.simplex.specs.Simplexes.{checked}
 use Rattle.store.specs.Contents.{Contents, holding, Stored}
 use Rattle.store.specs.Puts.{settled, put_answer, put_next}
 use Rattle.store.proofs.Walks.{none_is_zero}
 use Rattle.model.specs.Calls.{parts, lay_simplex, laid_simplex, lay_answer, mark_simplex, marked_simplex, mark_answer, Lays, Marks}
-use Rattle.model.specs.Walk.{stepped}
 use Rattle.model.specs.declared.refusal.ModelRefusal.{ModelRefusal}
 use Rattle.model.specs.declared.refusal.ModelRefusal.TheVariants.{Vertices, Range, Held, Full, Absent}
-use Rattle.model.specs.Walked.{folded_on, drop_nth, drop_past, nth_among}
 
 -- a put within range that needs no room, or finds some, is accepted
 pub put_accepted : (c : Contents) (s : List ℕ) (m : ℕ) → 0 < m → below c.range s ≡ true → (mask c.model s ≡ 0 → length c.model < c.limit) → put_next c s m ≡ holding c (write c.model s m)
@@ -34,55 +29,6 @@ put_accepted c s m some low room = ap (λ r. settled r c (holding c (write c.mod
         cond-false (m == 0) _ _ (ne_eqb m 0 (omega arith))
         ∙ cond-false (not (below c.range s)) _ _ (not_from_true _ low)
         ∙ cond-false (mask c.model s == 0 && length c.model == c.limit) _ _ (free (mask c.model s == 0) refl)
-
--- the face at a place is in range where the simplex is
-face_in_range : (n : ℕ) (s f : List ℕ) (i : ℕ) → rises s ≡ true → Some f ≡ nth (faces s) i → below n s ≡ true → below n f ≡ true
-face_in_range n s f i r h b = face_below n s f b (listed_is_face s f (rises_rising s r) (nth_among (faces s) i f (sym h)))
-
-pub lays_face : (c d : Contents) (s f : List ℕ) (i : ℕ) → rises s ≡ true → Some f ≡ nth (faces s) i → below c.range s ≡ true → mask c.model f ≡ 0 → length c.model < c.limit →
-    d ≡ put_next c f 1 → d ≡ holding c (stepped lay_one c.model (nth (faces s) i))
-lays_face c d s f i r h b z l e =
-    e ∙ put_accepted c f 1 (omega arith) (face_in_range c.range s f i r h b) (λ _. l)
-    ∙ ap (holding c) (sym (cond-true (mask c.model f == 0) (write c.model f 1) c.model (eq-eqb (mask c.model f) 0 z)) ∙ ap (stepped lay_one c.model) h)
-
-pub marks_face : (p : ℕ) (c d : Contents) (s f : List ℕ) (i m : ℕ) → rises s ≡ true → Some f ≡ nth (faces s) i → below c.range s ≡ true → 0 < mask c.model f →
-    m ≡ bit_or (mask c.model f) (2 ^ p) → d ≡ put_next c f m → d ≡ holding c (stepped (mark_one p) c.model (nth (faces s) i))
-marks_face p c d s f i m r h b l q e =
-    e ∙ put_accepted c f m (omega (arith, q, or_add_and (mask c.model f) (2 ^ p), and_le_r (mask c.model f) (2 ^ p))) (face_in_range c.range s f i r h b) (λ z. absurd (omega arith))
-    ∙ ap (λ n. holding c (write c.model f n)) q
-    ∙ ap (λ o. holding c (stepped (mark_one p) c.model o)) h
-
--- one step more of a walk that changes the model
-pub changed_on : (f : Model → List ℕ → Model) (c₀ c₁ c₂ : Contents) (fs : List (List ℕ)) (i : ℕ) →
-    c₁ ≡ holding c₀ (fold f c₀.model (take i fs)) → c₂ ≡ holding c₁ (stepped f c₁.model (nth fs i)) → c₂ ≡ holding c₀ (fold f c₀.model (take (i + 1) fs))
-changed_on f c₀ c₁ c₂ fs i e h =
-    h ∙ ap (λ c. holding c (stepped f c.model (nth fs i))) e ∙ ap (holding c₀) (sym (folded_on f c₀.model fs i))
-
-some_absent : (M : Model) (f : List ℕ) (fs : List (List ℕ)) → mask M f ≡ 0 → 1 ≤ absent M (f ∷ fs)
-some_absent M f fs z =
-    let one : ◌≡◌ {A = ℕ} (cond (mask M f == 0) 1 0) 1 = cond-true (mask M f == 0) 1 0 (eq-eqb (mask M f) 0 z) in
-    omega (arith, sum_by-cons (λ g. cond (mask M g == 0) 1 0) f fs)
-
--- there is room for the next face, if it is absent
-pub room_for_next : (M : Model) (limit : ℕ) (fs : List (List ℕ)) (i : ℕ) (f : List ℕ) → length M + absent M (drop i fs) ≤ limit → nth fs i ≡ Some f → mask M f ≡ 0 → length M < limit
-room_for_next M limit fs i f room h z = let e = ap (absent M) (drop_nth fs i f h) in omega (arith, some_absent M f (drop (i + 1) fs) z)
-
--- and after it there is room for the rest
-pub room_goes_on : (c₁ c₂ : Contents) (fs : List (List ℕ)) (i : ℕ) → Sorted c₁.model → c₂ ≡ holding c₁ (stepped lay_one c₁.model (nth fs i)) →
-    length c₁.model + absent c₁.model (drop i fs) ≤ c₁.limit → length c₂.model + absent c₂.model (drop (i + 1) fs) ≤ c₂.limit
-room_goes_on c₁ c₂ fs i u e room = rw e (go (nth fs i) refl)
-  where
-    go : (o : Option (List ℕ)) → nth fs i ≡ o → length (stepped lay_one c₁.model o) + absent (stepped lay_one c₁.model o) (drop (i + 1) fs) ≤ c₁.limit
-    go None h = let same = ap (absent c₁.model) (drop_past fs i h) in omega arith
-    go (Some f) h = let next = ap (absent c₁.model) (drop_nth fs i f h) in omega (arith, lay_one_room c₁.model f (drop (i + 1) fs) u)
-
--- what was held is held after a mark
-pub holds_on : (p : ℕ) (c₁ c₂ : Contents) (fs : List (List ℕ)) (i : ℕ) (q : List ℕ) → Sorted c₁.model → c₂ ≡ holding c₁ (stepped (mark_one p) c₁.model (nth fs i)) → 0 < mask c₁.model q → 0 < mask c₂.model q
-holds_on p c₁ c₂ fs i q u e h = rw e (go (nth fs i))
-  where
-    go : (o : Option (List ℕ)) → 0 < mask (stepped (mark_one p) c₁.model o) q
-    go None = h
-    go (Some f) = mark_one_holds p c₁.model f q u h
 
 -- the faces of a held simplex are held
 pub faces_held : (M : Model) (s : List ℕ) → Legal M → 0 < mask M s → (q : List ℕ) → Face q s → 0 < mask M q
