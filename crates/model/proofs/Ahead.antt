@@ -89,6 +89,12 @@ module _ (u v : ℕ) (M : Model) (sorted : Sorted M) where
           one more false true h = ap (λ L. less u r.key ∷ bases_without u v L) rest ∙ sym (ap (λ a. cond a (less u r.key ∷ bases_without u v rs) (bases_without u v rs)) h)
           one more false false h = more ∙ sym (ap (λ a. cond a (less u r.key ∷ bases_without u v rs) (bases_without u v rs)) h)
 
+  -- leaving a base behind that is not the first changes nothing
+  pub pass_other : (q : List ℕ) (o : Option Simplex) → is_base u q o ≡ false → ahead u v M (found o) ≡ past_base q (ahead u v M (found o))
+  pass_other q None h = refl
+  pass_other q (Some s) h =
+      sym (ap (λ b. cond b (bases_without u v (later colex (vertices s) M)) (less u (vertices s) ∷ bases_without u v (later colex (vertices s) M))) h)
+
   -- leaving the first behind, the walk goes on
   pub pass_first : (q : List ℕ) (o : Option Simplex) → is_base u q o ≡ true → ahead u v M (first_sided u v (later colex (vertices_or_none o) M)) ≡ past_base q (ahead u v M (found o))
   pass_first q None h = cc

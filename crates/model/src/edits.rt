@@ -15,6 +15,7 @@ use store::meaning::Store;
 pub(crate) fn remove_all<S: Store>(store: &mut S)
     ensures { S.Store.contents store.new ≡ holding (S.Store.contents store.old) [] }
 {
+    // The store changes on the way, so it is asked anew for its first simplex each time.
     while let Some(s) = (*store).after(None) {
         let _ = store.put(s, 0);
     }

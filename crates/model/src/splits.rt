@@ -19,7 +19,7 @@ impl Merge {
         requires { Undoes self.u self.v (S.Store.contents store.old) (newest_pairs trail.now.notes) (split self.u self.v (S.Store.contents store.old).model (newest_pairs trail.now.notes)) }
         ensures { S.Store.contents store.new ≡ holding (S.Store.contents store.old) (split self.u self.v (S.Store.contents store.old).model (newest_pairs trail.now.notes)) }
     {
-        // The store changes on the way, so it is asked anew for each next simplex.
+        // The store changes on the way, so it is asked anew for each next simplex; i counts their pairs along.
         let mut i = 0;
         let mut at = None;
         while let Some(t) = self.next_sided(store, at) {

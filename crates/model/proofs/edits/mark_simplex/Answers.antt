@@ -4,9 +4,9 @@ use Rattle.simplex.specs.Simplexes.{vertices}
 use Rattle.model.proofs.Changes.{faces_held}
 use Rattle.model.proofs.edits.mark_simplex.Goals as goal
 
-pub mark_faces-requires : goal.mark_faces-requires
-mark_faces-requires g c =
+pub mark_faces-requires-clause-held : goal.mark_faces-requires-clause-held
+mark_faces-requires-clause-held g c =
     let before = g.S.Store.contents c.args.store.now in
     let s = vertices c.args.simplex.now in
     let held : 0 < mask before.model s = search rules in
-    record { range = search rules; held = faces_held before.model s c.requires held }
+    faces_held before.model s c.requires held

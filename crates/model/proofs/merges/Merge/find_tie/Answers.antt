@@ -7,10 +7,6 @@ use Rattle.model.specs.Ties.{shows, tie_in, tie}
 use Rattle.model.proofs.Failing.{first_among, first_among_all, is_none, tie_among, part_passed, part_found}
 use Rattle.model.proofs.merges.Merge.find_tie.Goals as goal
 
-pub loop-part-init : goal.loop-part-init
-loop-part-init g c =
-    ap (λ ps. tie_among ps c.args.self.u c.args.self.v (g.S.Store.contents c.args.store.now).model) (ap parts_left c.into_iter-part-iterator.ensures.into_iter_gives ∙ c.all-part-items.ensures)
-
 pub loop-part-preserved-then-not-is_in : goal.loop-part-preserved-then-not-is_in
 loop-part-preserved-then-not-is_in g c =
     let M = (g.S.Store.contents c.args.store.now).model in

@@ -1,19 +1,13 @@
-use Rattle.std.proofs.Common.{[], ◌∷◌, sym, ap, ◌∙◌}
-use Rattle.complex.specs.Simplex.{below}
+use Rattle.std.proofs.Common.{sym, ap, ◌∙◌}
 use Rattle.complex.proofs.Faces.{rises_rising}
 use Rattle.simplex.specs.Simplexes.{vertices, vertices_or_none}
 use Rattle.store.specs.Contents.{holding}
 use Rattle.model.proofs.Merging.{next_held, passes, merged_on, done, passing_leaves_less, merging_leaves_less}
 use Rattle.model.proofs.merges.Merge.run.Goals as goal
 
-pub merge_one-requires : goal.merge_one-requires
-merge_one-requires g c =
-    let now = g.S.Store.contents c.loop-t.store in
-    record {
-      range = ap (λ d. below d.range (c.args.self.u ∷ [])) c.loop-t.invariant.0 ∙ c.requires.range;
-      held = next_held now (vertices_or_none c.loop-t.at) (vertices c.in-Some.t) (g.S.Store.stored c.loop-t.store) c.in-Some.ensures;
-      taken = sym c.if-has.ensures;
-    }
+pub merge_one-requires-clause-held : goal.merge_one-requires-clause-held
+merge_one-requires-clause-held g c =
+    next_held (g.S.Store.contents c.loop-t.store) (vertices_or_none c.loop-t.at) (vertices c.in-Some.t) (g.S.Store.stored c.loop-t.store) c.in-Some.ensures
 
 pub loop-t-smaller-then-has : goal.loop-t-smaller-then-has
 loop-t-smaller-then-has g c =

@@ -6,15 +6,8 @@ use Rattle.complex.proofs.Faces.{rises_rising}
 use Rattle.simplex.specs.Simplexes.{vertices}
 use Rattle.store.specs.Contents.{holding}
 use Rattle.model.specs.Splits.{Takes}
-use Rattle.model.proofs.Splitting.{first_taken, second_taken, third_taken, with_both, two_written}
+use Rattle.model.proofs.Splitting.{second_taken, third_taken, with_both, two_written}
 use Rattle.model.proofs.merges.Merge.undo_one.Goals as goal
-
-pub put_with-requires : goal.put_with-requires
-put_with-requires g c =
-    let before = g.S.Store.contents c.args.store.now in
-    let u = c.args.self.u in
-    subst (λ (x : List ℕ). Takes before (plus u x) c.args.pair.0) (sym c.without-base.ensures)
-    (first_taken u c.args.self.v before (less u (vertices c.args.t.now)) c.args.pair.0 c.args.pair.1 c.requires.splits (g.S.Store.stored c.args.store.now))
 
 pub put_with-requires-2 : goal.put_with-requires-2
 put_with-requires-2 g c =
