@@ -9,20 +9,20 @@ use crate::flaw::{Flaw, Flawed};
 use model::refusal::ModelRefusal;
 
 // What stopped a load: a flaw of the file, or a refusal of the model, carried whole.
-#[derive(Clone, Copy)]
+#[derive(Debug, Clone, Copy, PartialEq, Eq)]
 pub enum Cause {
     Flaw(Flaw),
     Model(ModelRefusal),
 }
 
 // Where in the file a load stopped, and why.
-#[derive(Clone, Copy)]
+#[derive(Debug, Clone, Copy, PartialEq, Eq)]
 pub struct Stopped {
     pub site: Site,
     pub cause: Cause,
 }
 
-#[derive(Clone, Copy)]
+#[derive(Debug, Clone, Copy, PartialEq, Eq)]
 pub enum FileRefusal {
     // the draft holds something
     Occupied,

@@ -1,10 +1,10 @@
 -- What is asked of the model of the bytes, or done to it, is asked of the byte at a simplex's place, or done to it.
 use Rattle.std.proofs.Common.{◌≡◌, ℕ, zero, suc, ◌+◌, ◌<◌, ◌≤◌, true, List, [], ◌∷◌, length, get_or, drop, set, Some, None, Option, Less, refl, ap, ◌∙◌, arith, length-drop}
 use Rattle.std.specs.Ordering.{is_lt, nat_cmp}
-use Rattle.std.proofs.lemmas.List.{drop-drop, drop_more}
-use Rattle.std.proofs.lemmas.Bool.{and_parts, and_from, cond-false, ne_eqb}
+use Rattle.std.proofs.lemmas.List.{drop-drop}
+use Rattle.std.proofs.lemmas.Bool.{and_parts, and_from}
 use Rattle.std.proofs.lemmas.Bool.Decides.{nat_tests}
-use Rattle.order.specs.Assoc.{by, before, lookup, bind, put, later, first}
+use Rattle.order.specs.Assoc.{by, before, lookup, bind, put, later}
 use Rattle.order.proofs.Ranks.{is_less, self_same, exchanged}
 use Rattle.order.proofs.Maps.{lookup_before}
 use Rattle.complex.specs.Model.{Model, present}
@@ -131,19 +131,3 @@ pub later_between : (s : List ℕ) (q : ℕ) (bs : List ℕ) → q ≤ places �
 later_between s q bs l h f g =
     skipped s 0 q q bs (omega arith) (omega arith) f
     ∙ later_before s (masks_from q (drop q bs)) (before_masks s q (drop q bs) (within q bs h l) g)
-
-module _ (p : ℕ) (bs : List ℕ) (l : p < length bs) where
-  byte_here : masks_from p (drop p bs) ≡ bind (simplex_at p) (present (get_or bs p 0)) (masks_from (suc p) (drop (p + 1) bs))
-  byte_here = ap (masks_from p) (drop_more bs p 0 l)
-
-  -- at a byte of 0 nothing stands
-  pub nothing_here : get_or bs p 0 ≡ 0 → masks_from p (drop p bs) ≡ masks_from (p + 1) (drop (p + 1) bs)
-  nothing_here e =
-      byte_here
-      ∙ ap (λ b. bind (simplex_at p) (present b) (masks_from (suc p) (drop (p + 1) bs))) e
-      ∙ ap (λ q. masks_from q (drop (p + 1) bs)) (let g : suc p ≡ p + 1 = omega arith in g)
-
-  -- at any other stands its simplex
-  pub simplex_here : (get_or bs p 0 ≡ 0 → ⊥) → first (masks_from p (drop p bs)) ≡ Some (simplex_at p)
-  simplex_here f =
-      ap first byte_here ∙ ap (λ o. first (bind (simplex_at p) o (masks_from (suc p) (drop (p + 1) bs)))) (cond-false _ _ _ (ne_eqb (get_or bs p 0) 0 f))

@@ -107,6 +107,7 @@ fn largest(k: usize, r: usize, n: u16) -> u16
 }
 
 // The simplex at a place. The last vertex is found first; each is the largest whose term is within what is left of the place.
+// So they fill an array from its end; a vector grows at the other end.
 pub(crate) fn simplex_at(p: usize) -> Option<Simplex>
     requires { p < places }
     ensures { found result ≡ Some (simplex_at p) }

@@ -8,18 +8,9 @@ mod tests {
     use std::process::Abort;
     use std::test::Fail;
     use store::meaning::Store;
-    use store::refusal::StoreRefusal;
 
     fn simplex(list: &[u16]) -> Result<Simplex, Fail> {
         Simplex::try_from(list).map_err(|_| Fail::new("not a simplex"))
-    }
-
-    // The number of a refusal, 0 where there is none.
-    fn number(answer: Result<(), StoreRefusal>) -> u8 {
-        match answer {
-            Ok(()) => 0,
-            Err(refusal) => u8::from(refusal),
-        }
     }
 
     // Puts a simplex alone into the grid, over bytes of which one is left over: only the byte at its place and that one are set.
@@ -30,7 +21,7 @@ mod tests {
         place: usize,
     ) -> Result<(), Fail> {
         let mut store = GridStore::open(bytes);
-        assert_eq!(rt; number(store.put(simplex(list)?, 5)), 0);
+        assert_eq!(rt; store.put(simplex(list)?, 5).map_err(u8::from), Ok(()));
         assert_eq!(rt; store.held(), 1);
         for (i, byte) in bytes.iter().enumerate() {
             let expected = if i == place {
@@ -65,7 +56,7 @@ mod tests {
         let mut store = GridStore::open(bytes);
         assert_eq!(rt; (store.held(), store.limit()), (0, 41448));
         for s in list.iter().rev() {
-            assert_eq!(rt; number(store.put(*s, 255)), 0);
+            assert_eq!(rt; store.put(*s, 255).map_err(u8::from), Ok(()));
         }
         let mut last = None;
         for s in list {
@@ -76,14 +67,9 @@ mod tests {
         }
         assert!(rt; store.after(last).is_none());
         if let [s, ..] = list {
-            assert_eq!(rt;
-                (
-                    number(store.put(*s, 0)),
-                    number(store.put(*s, 0)),
-                    store.look(s),
-                ),
-                (0, 0, 0)
-            );
+            assert_eq!(rt; store.put(*s, 0).map_err(u8::from), Ok(()));
+            assert_eq!(rt; store.put(*s, 0).map_err(u8::from), Ok(()));
+            assert_eq!(rt; store.look(s), 0);
         }
         assert_eq!(rt; store.held(), list.len().saturating_sub(1));
     }
@@ -106,14 +92,10 @@ mod tests {
         let triangle = simplex(&[0, 1, 2])?;
         let mut store = GridStore::open(bytes);
         assert_eq!(rt; store.range(), 32);
-        assert_eq!(rt;
-            (number(store.put(outside, 1)), number(store.put(outside, 0))),
-            (3, 0)
-        );
-        assert_eq!(rt;
-            (number(store.put(inside, 1)), number(store.put(triangle, 1))),
-            (0, 0)
-        );
+        assert_eq!(rt; store.put(outside, 1).map_err(u8::from), Err(3));
+        assert_eq!(rt; store.put(outside, 0).map_err(u8::from), Ok(()));
+        assert_eq!(rt; store.put(inside, 1).map_err(u8::from), Ok(()));
+        assert_eq!(rt; store.put(triangle, 1).map_err(u8::from), Ok(()));
         assert_eq!(rt; (store.look(&outside), store.held()), (0, 2));
         assert_eq!(rt; store.after(Some(outside)), Some(triangle));
         Ok(())
@@ -129,14 +111,9 @@ mod tests {
         let outside = simplex(&[32])?;
         let mut store = GridStore::open(bytes);
         assert_eq!(rt; (store.held(), store.limit(), store.range()), (0, 0, 32));
-        assert_eq!(rt;
-            (
-                number(store.put(outside, 1)),
-                number(store.put(point, 1)),
-                number(store.put(point, 0)),
-            ),
-            (3, 22, 0)
-        );
+        assert_eq!(rt; store.put(outside, 1).map_err(u8::from), Err(3));
+        assert_eq!(rt; store.put(point, 1).map_err(u8::from), Err(22));
+        assert_eq!(rt; store.put(point, 0).map_err(u8::from), Ok(()));
         assert_eq!(rt; store.look(&point), 0);
         assert!(rt; store.after(None).is_none());
         for byte in bytes.iter() {

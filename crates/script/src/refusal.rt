@@ -8,7 +8,7 @@ use file::refusal::FileRefusal;
 use model::refusal::ModelRefusal;
 
 // A refusal of the script itself, or one of the levels below, carried whole.
-#[derive(Clone, Copy)]
+#[derive(Debug, Clone, Copy, PartialEq, Eq)]
 pub enum ScriptRefusal {
     // the line is unreadable
     Line,

@@ -1,8 +1,10 @@
 -- The nodes are gathered one after another.
-use Rattle.std.proofs.Common.{◌≡◌, ℕ, ◌+◌, ◌<◌, Bool, true, false, cond, leb, List, [], ◌∷◌, ◌++◌, length, get_or, take, drop, Some, None, fold, filter, Option, Ordering, sym, refl, ap, ◌∙◌, arith}
+use Rattle.std.proofs.Common.{◌≡◌, ℕ, ◌+◌, ◌<◌, Bool, true, false, cond, leb, List, [], ◌∷◌, ◌++◌, length, get_or, take, drop, Some, None, fold, filter, Option, Result, Ok, Err, is_err, Ordering, sym, refl, ap, ◌∙◌, arith}
 use Rattle.std.proofs.lemmas.List.{length-map, get_or-map, take_more, drop_more}
 use Rattle.order.specs.Assoc.{lookup}
 use Rattle.order.specs.declared.record.Record.{Record}
+use Rattle.std.specs.Option.{ok_or}
+use Rattle.std.specs.Result.{result_ok}
 use Rattle.search.specs.Classes.{merged, united, joined_on, gathered_from, gathered, counted}
 use Rattle.search.specs.Nodes.{own, keys}
 use Rattle.search.proofs.Uniting.{keys_lessened}
@@ -14,6 +16,15 @@ one_of [] n h = absurd (omega arith)
 one_of (r ∷ rs) n h = r
 
 -- a count that is answered is that of the nodes, which find room
+-- what a result that is made of an option says of it
+pub told : {X E : Type 0} (o : Option X) (e : E) {r : Result X E} → r ≡ ok_or o e → result_ok r ≡ o
+told None e h = ap result_ok h
+told (Some x) e h = ap result_ok h
+
+pub none_told : {X E : Type 0} (r : Result X E) → is_err r ≡ true → result_ok r ≡ None
+none_told (Ok x) h = cc
+none_told (Err e) h = refl
+
 pub counted_some : (n room m : ℕ) → Some n ≡ counted room m → (leb m room ≡ true) × (n ≡ m)
 counted_some n room m e = go (leb m room) refl e
   where

@@ -1,5 +1,6 @@
 // The search: nodes are listed in a table, each its own class, and the classes of joined nodes become one.
 ghost use Rattle.std.specs.Prelude.{◌≡◌, ◌<◌, ◌≤◌, ◌++◌, length, take, drop, slice_index_or};
+ghost use Rattle.std.specs.Result.{result_ok};
 ghost use Rattle.search.specs.Nodes.{own, Ordered, keys};
 ghost use Rattle.search.specs.Classes.{counted, joined_on, Searches};
 
@@ -57,19 +58,26 @@ fn join<J: Joining>(graph: &J, rows: &mut [Record<J::Node, J::Node>], at: usize)
     }
 }
 
+// There are fewer records than nodes.
+#[derive(Clone, Copy, Debug, PartialEq, Eq)]
+pub struct TooFewRecords;
+
 // Gathers the nodes into classes. The first records then hold the nodes in order, each with the least node of its class.
-// None is answered, and nothing is written, where there are fewer records than nodes.
-pub fn search<J: Joining>(graph: &J, rows: &mut [Record<J::Node, J::Node>]) -> Option<Classes>
-    ensures { Searches J.Node.Ord.cmp (J.Joining.joins graph.now) (J.Joining.nodes graph.now) rows.old rows.new result }
+// Nothing is written where there are fewer records than nodes.
+pub fn search<J: Joining>(
+    graph: &J,
+    rows: &mut [Record<J::Node, J::Node>],
+) -> Result<Classes, TooFewRecords>
+    ensures { Searches J.Node.Ord.cmp (J.Joining.joins graph.now) (J.Joining.nodes graph.now) rows.old rows.new (result_ok result) }
 {
-    let n = count(graph, rows.len())?;
+    let n = count(graph, rows.len()).ok_or(TooFewRecords)?;
     list(graph, rows);
     let labels = &mut rows[0..n];
     // Each turn changes labels of earlier records too, so it takes all of them and a place.
     for at in 0..n {
         join(graph, labels, at);
     }
-    Some(Classes {
+    Ok(Classes {
         nodes: n,
         classes: count_own(labels),
     })

@@ -5,25 +5,12 @@
 mod tests {
     use order::record::Record;
     use simplex::simplex::Simplex;
-    use simplex::simplex::makes::NotRising;
     use std::test::Fail;
     use store::meaning::Store;
-    use store::refusal::StoreRefusal;
     use table_store::records::TableStore;
 
     fn simplex(list: &[u16]) -> Result<Simplex, Fail> {
-        match Simplex::try_from(list) {
-            Ok(s) => Ok(s),
-            Err(NotRising) => Err(Fail::new("not a simplex")),
-        }
-    }
-
-    // The number of a refusal, 0 where there is none.
-    fn number(answer: Result<(), StoreRefusal>) -> u8 {
-        match answer {
-            Ok(()) => 0,
-            Err(refusal) => u8::from(refusal),
-        }
+        Simplex::try_from(list).map_err(|_| Fail::new("not a simplex"))
     }
 
     #[test]
@@ -38,16 +25,16 @@ mod tests {
         let mut store = TableStore::open(&mut records);
         assert_eq!(rt; store.held(), 0);
         assert_eq!(rt; store.look(&point), 0);
-        assert_eq!(rt; number(store.put(triangle, 1)), 0);
-        assert_eq!(rt; number(store.put(edge, 3)), 0);
-        assert_eq!(rt; number(store.put(point, 255)), 0);
+        assert_eq!(rt; store.put(triangle, 1).map_err(u8::from), Ok(()));
+        assert_eq!(rt; store.put(edge, 3).map_err(u8::from), Ok(()));
+        assert_eq!(rt; store.put(point, 255).map_err(u8::from), Ok(()));
         assert_eq!(rt; store.look(&edge), 3);
         assert_eq!(rt; store.after(None), Some(point));
         assert_eq!(rt; store.after(Some(point)), Some(edge));
         assert_eq!(rt; store.after(Some(edge)), Some(triangle));
         assert_eq!(rt; store.after(Some(triangle)), None);
-        assert_eq!(rt; number(store.put(edge, 0)), 0);
-        assert_eq!(rt; number(store.put(edge, 0)), 0);
+        assert_eq!(rt; store.put(edge, 0).map_err(u8::from), Ok(()));
+        assert_eq!(rt; store.put(edge, 0).map_err(u8::from), Ok(()));
         assert_eq!(rt; store.look(&edge), 0);
         assert_eq!(rt; store.held(), 2);
         Ok(())
@@ -63,9 +50,9 @@ mod tests {
         }; 3];
         let mut store = TableStore::open(&mut records);
         assert_eq!(rt; store.range(), 4096);
-        assert_eq!(rt; number(store.put(inside, 1)), 0);
-        assert_eq!(rt; number(store.put(outside, 1)), 3);
-        assert_eq!(rt; number(store.put(outside, 0)), 0);
+        assert_eq!(rt; store.put(inside, 1).map_err(u8::from), Ok(()));
+        assert_eq!(rt; store.put(outside, 1).map_err(u8::from), Err(3));
+        assert_eq!(rt; store.put(outside, 0).map_err(u8::from), Ok(()));
         assert_eq!(rt; store.held(), 1);
         Ok(())
     }
@@ -81,10 +68,10 @@ mod tests {
         }; 2];
         let mut store = TableStore::open(&mut records);
         assert_eq!(rt; store.limit(), 2);
-        assert_eq!(rt; number(store.put(edge, 1)), 0);
-        assert_eq!(rt; number(store.put(point, 1)), 0);
-        assert_eq!(rt; number(store.put(other, 1)), 22);
-        assert_eq!(rt; number(store.put(edge, 5)), 0);
+        assert_eq!(rt; store.put(edge, 1).map_err(u8::from), Ok(()));
+        assert_eq!(rt; store.put(point, 1).map_err(u8::from), Ok(()));
+        assert_eq!(rt; store.put(other, 1).map_err(u8::from), Err(22));
+        assert_eq!(rt; store.put(edge, 5).map_err(u8::from), Ok(()));
         assert_eq!(rt; store.look(&edge), 5);
         assert_eq!(rt; store.look(&other), 0);
         Ok(())
@@ -99,7 +86,7 @@ mod tests {
         }; 0];
         let mut store = TableStore::open(&mut records);
         assert_eq!(rt; store.limit(), 0);
-        assert_eq!(rt; number(store.put(point, 1)), 22);
+        assert_eq!(rt; store.put(point, 1).map_err(u8::from), Err(22));
         assert_eq!(rt; store.after(None), None);
         Ok(())
     }

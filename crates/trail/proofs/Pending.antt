@@ -162,6 +162,7 @@ module _ (bytes : List ℕ) (used : ℕ) (t : HoldsRecords bytes used) (p : Past
     record_committed has = rw (← view_is) (record {
       answer = ap Ok long ∙ sym (cond-true _ _ _ there);
       notes = holds_of _ (newest ∷ notes_of (take used bytes)) one_more_note ∙ sym (cond-true _ _ _ there);
+      refused = λ h. absurd (both_ways _ h there);
     })
       where
         there : has_room (notes_of (take used bytes)) head.s ≡ true

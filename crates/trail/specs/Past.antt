@@ -35,3 +35,4 @@ pub record Paired (i a b : ℕ) (old new : Past) : Type 0 where
 pub record Committed (head : Head) (old new : Past) (r : Result ℕ TrailFull) : Type 0 where
   pub answer : r ≡ cond (has_room old.notes head.s) (Ok (record_length head.s)) (Err (record {}))
   pub notes : new.notes ≡ cond (has_room old.notes head.s) (note head.u head.v (pending old head.s) ∷ old.notes) old.notes
+  pub refused : has_room old.notes head.s ≡ false → new ≡ old

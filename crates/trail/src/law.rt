@@ -2,8 +2,6 @@
 ghost use Rattle.trail.specs.Law.{NotesComeBack};
 
 // What is written is read.
-pub fn notes_come_back() -> u8
+pub fn notes_come_back()
     ensures { NotesComeBack }
-{
-    0
-}
+{}

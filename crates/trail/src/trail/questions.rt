@@ -1,6 +1,6 @@
 // What a trail is asked.
-ghost use Rattle.std.specs.Prelude.{◌≡◌};
-ghost use Rattle.trail.specs.Notes.{bytes_of, room_used, has_room};
+ghost use Rattle.std.specs.Prelude.{◌≡◌, ◌+◌, length};
+ghost use Rattle.trail.specs.Notes.{capacity, bytes_of, room_used, has_room};
 ghost use Rattle.trail.specs.Decoding.{notes_of};
 ghost use Rattle.trail.specs.Questions.{newest_head, newest_pair, traced, merged};
 
@@ -12,7 +12,8 @@ use crate::walk::Heads;
 impl Trail {
     // How many bytes the records take.
     pub fn used(&self) -> usize
-        ensures { result ≡ room_used self.now.notes }
+        ensures value { result ≡ room_used self.now.notes }
+        ensures whole { room_used self.now.notes + length self.now.behind ≡ capacity }
     {
         self.used
     }
