@@ -1,12 +1,12 @@
 -- Digits read one after another.
-use Rattle.std.proofs.Common.{◌≡◌, ℕ, suc, ◌+◌, ◌-◌, ◌*◌, ◌^◌, ◌<◌, ◌≤◌, true, cond, ◌&&◌, leb, List, [], ◌∷◌, length, drop, get_or, Some, None, sym, ap, ◌∙◌, mul-le-mul_right, mul_assoc, mul-le-mul_left, arith}
+use Rattle.std.proofs.Common.{◌≡◌, ℕ, suc, ◌+◌, ◌-◌, ◌*◌, ◌^◌, ◌<◌, ◌≤◌, true, ◌&&◌, List, ◌∷◌, length, drop, get_or, sym, ap, ◌∙◌, mul-le-mul_right, mul_assoc, mul-le-mul_left, arith}
 use native.Mathlib.Nat.{one-le-pow, pow-succ'}
 use Rattle.std.specs.Char.{digit_value}
 use Rattle.std.proofs.lemmas.List.{drop_more}
 use Rattle.std.proofs.lemmas.Str.{digit_value_digit}
 use Rattle.std.proofs.lemmas.Str.Parse.{digit_from_value}
-use Rattle.std.proofs.lemmas.Bool.{le-leb, lt-ltb, cond-true, and_from}
-use Rattle.script.specs.Line.{is_digit, all_digits, value, number_of}
+use Rattle.std.proofs.lemmas.Bool.{le-leb, and_from}
+use Rattle.script.specs.Line.{is_digit, all_digits, value}
 
 -- n is what the digits of s before left stand for
 pub record Sofar (s : List ℕ) (n : ℕ) (left : List ℕ) : Type 0 where

@@ -1,9 +1,9 @@
 // The lines of a script, and the command that a line says.
-ghost use Rattle.std.specs.Prelude.{◌≡◌, ◌↔◌, Ok};
+ghost use Rattle.std.specs.Prelude.{◌≡◌};
 ghost use Rattle.std.specs.Iterator.{YieldsFirstRef, item_count};
 ghost use Rattle.std.specs.Option.{option_map};
 ghost use Rattle.std.specs.Result.{result_ok};
-ghost use Rattle.script.specs.Line.{upto, from, number_of, next_number, alone, letter_command, command_of, Reads};
+ghost use Rattle.script.specs.Line.{upto, from, number_of, next_number, alone, letter_command, Reads};
 ghost use Rattle.script.specs.Lines.{first_line, lines, Lined, Leads};
 
 use std::marker::Model;

@@ -38,7 +38,7 @@ fn fill_from_file<'a>(rt: &HostRuntime, buffer: &'a mut [u8]) -> io::Result<&'a 
     }
 }
 
-// The whole program.
+// The whole program. Fixed memory: the file and the script are read into two arrays.
 pub fn start(rt: &HostRuntime) -> io::Result<()> {
     let mut file = [0u8; MOST];
     let file = fill_from_file(rt, &mut file)?;

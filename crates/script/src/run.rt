@@ -59,7 +59,7 @@ pub fn transcript_over<S: Store>(
     Ok(text)
 }
 
-// All that the program prints for a file and a script.
+// All that the program prints for a file and a script. Fixed memory: its store lies in an array of records.
 pub fn transcript(heap: Global, file: &[u8], script: &[u8]) -> Result<String, AllocError>
     ensures { IfOk result (λ s. string_bytes s ≡ transcript_of file.now script.now) }
 {

@@ -1,15 +1,8 @@
 -- The bytes before and after the cut are the first line and what follows its end.
-use Rattle.std.proofs.Common.{◌≡◌, ◌≤◌, [], length, sym, ap, ◌∙◌, rules}
-use Rattle.std.proofs.lemmas.List.{nil_from_length}
-use Rattle.script.specs.Lines.{lines, first_line}
+use Rattle.std.proofs.Common.{◌≤◌, length, sym, ap, ◌∙◌, rules}
 use Rattle.script.proofs.Cutting.{past_none, past_some, after_one}
 use Rattle.script.proofs.Broken.{lines_lined, taken}
 use Rattle.script.proofs.lines.next_line.Goals as goal
-
-pub returns-then-is_empty : goal.returns-then-is_empty
-returns-then-is_empty c =
-    let none : c.args.script.now ≡ [] = nil_from_length c.args.script.now (search rules) in
-    record { value = sym (ap first_line none); leads = ap lines none; law = lines_lined c.args.script.now }
 
 pub returns-in-empty : goal.returns-in-empty
 returns-in-empty c =
