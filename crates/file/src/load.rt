@@ -56,11 +56,11 @@ fn enter<S: Store>(draft: &mut Draft<S>, entry: Entry) -> Result<usize, ModelRef
     ensures value { result ≡ entry_answer draft.old (content entry.entry) }
     ensures after { draft.new ≡ entry_next draft.old (content entry.entry) }
 {
+    let numbers = vertices(entry.bytes());
     match entry {
-        Entry::Tetrahedron(bytes)
-        | Entry::Triangle(bytes)
-        | Entry::Wire(bytes)
-        | Entry::Point(bytes) => draft.lay(vertices(bytes).as_slice()),
-        Entry::Marked(part, bytes) => draft.mark(u16::from(part), vertices(bytes).as_slice()),
+        Entry::Tetrahedron(_) | Entry::Triangle(_) | Entry::Wire(_) | Entry::Point(_) => {
+            draft.lay(numbers.as_slice())
+        }
+        Entry::Marked(part, _) => draft.mark(u16::from(part), numbers.as_slice()),
     }
 }
