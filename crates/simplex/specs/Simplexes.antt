@@ -1,7 +1,6 @@
 -- A simplex of the code by the list of its vertices.
 use Rattle.std.specs.Prelude.{◌≡◌, ℕ, cond, List, [], length, Some, None, Option, Result, nat_le}
 use Rattle.std.specs.declared.cmp.Ordering.{Ordering}
-use Rattle.std.specs.List.{slice_get}
 use Rattle.std.specs.Option.{option_map}
 use Rattle.std.specs.Result.{result_ok}
 use Rattle.complex.specs.Simplex.{colex, proper}
@@ -36,7 +35,3 @@ Makes s r = found (result_ok r) ≡ checked s
 -- the list, unless it has five vertices
 abbrev pub fitted : List ℕ → Option (List ℕ)
 fitted s = cond (nat_le (length s) 4) (Some s) None
-
--- the element at a place, if there is one
-abbrev pub nth : {X : Type 0} → List X → ℕ → Option X
-nth xs i = slice_get xs i

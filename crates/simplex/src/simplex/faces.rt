@@ -10,9 +10,6 @@ use crate::shape::Shape;
 use crate::simplex::Simplex;
 use crate::simplex::makes::simplex;
 
-// No simplex has more faces, itself counted.
-pub const MOST_FACES: usize = 15;
-
 impl Simplex {
     // The face at place i, from 0, in the order of the definition; the last is the simplex itself.
     pub fn face(&self, i: usize) -> Option<Simplex>
