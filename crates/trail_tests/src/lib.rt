@@ -3,8 +3,8 @@
 
 #[cfg(test)]
 mod tests {
-    use trail::refusal::TrailFull;
     use trail::head::Head;
+    use trail::refusal::TrailFull;
     use trail::trail::Trail;
 
     // Adds a record of two pairs, and answers its length.
