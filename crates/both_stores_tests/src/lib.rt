@@ -4,43 +4,37 @@
 #[cfg(test)]
 mod tests {
     use grid_store::grid::GridStore;
-    use model::refusal::ModelRefusal;
     use model::stages::Draft;
     use order::record::Record;
     use simplex::simplex::Simplex;
     use store::meaning::Store;
     use table_store::records::TableStore;
 
-    // A refusal by its number.
-    fn numbered<T>(answer: Result<T, ModelRefusal>) -> Result<T, u8> {
-        answer.map_err(u8::from)
-    }
-
     fn laid<S: Store>(draft: &mut Draft<'_, S>) -> [Result<usize, u8>; 10] {
         [
-            numbered(draft.lay(&[0, 1, 2, 3])),
-            numbered(draft.lay(&[1, 2, 3, 31])),
-            numbered(draft.lay(&[3, 30, 31])),
-            numbered(draft.lay(&[0, 30])),
-            numbered(draft.lay(&[17])),
-            numbered(draft.lay(&[17])),
-            numbered(draft.lay(&[2, 3])),
-            numbered(draft.lay(&[3, 3])),
-            numbered(draft.lay(&[])),
-            numbered(draft.lay(&[5, 4, 3, 2, 1])),
+            draft.lay(&[0, 1, 2, 3]).map_err(u8::from),
+            draft.lay(&[1, 2, 3, 31]).map_err(u8::from),
+            draft.lay(&[3, 30, 31]).map_err(u8::from),
+            draft.lay(&[0, 30]).map_err(u8::from),
+            draft.lay(&[17]).map_err(u8::from),
+            draft.lay(&[17]).map_err(u8::from),
+            draft.lay(&[2, 3]).map_err(u8::from),
+            draft.lay(&[3, 3]).map_err(u8::from),
+            draft.lay(&[]).map_err(u8::from),
+            draft.lay(&[5, 4, 3, 2, 1]).map_err(u8::from),
         ]
     }
 
     fn marked<S: Store>(draft: &mut Draft<'_, S>) -> [Result<usize, u8>; 8] {
         [
-            numbered(draft.mark(1, &[1, 2, 3])),
-            numbered(draft.mark(2, &[3, 30])),
-            numbered(draft.mark(2, &[3])),
-            numbered(draft.mark(7, &[1, 2, 3, 31])),
-            numbered(draft.mark(0, &[0])),
-            numbered(draft.mark(8, &[0])),
-            numbered(draft.mark(3, &[17, 18])),
-            numbered(draft.mark(3, &[2, 1])),
+            draft.mark(1, &[1, 2, 3]).map_err(u8::from),
+            draft.mark(2, &[3, 30]).map_err(u8::from),
+            draft.mark(2, &[3]).map_err(u8::from),
+            draft.mark(7, &[1, 2, 3, 31]).map_err(u8::from),
+            draft.mark(0, &[0]).map_err(u8::from),
+            draft.mark(8, &[0]).map_err(u8::from),
+            draft.mark(3, &[17, 18]).map_err(u8::from),
+            draft.mark(3, &[2, 1]).map_err(u8::from),
         ]
     }
 
@@ -58,20 +52,20 @@ mod tests {
         let marks = marked(&mut draft);
         let working = draft.close();
         let masks = [
-            numbered(working.look(&[3])),
-            numbered(working.look(&[2, 3])),
-            numbered(working.look(&[1, 2, 3, 31])),
-            numbered(working.look(&[0, 31])),
-            numbered(working.look(&[1, 0])),
-            numbered(working.look(&[])),
+            working.look(&[3]).map_err(u8::from),
+            working.look(&[2, 3]).map_err(u8::from),
+            working.look(&[1, 2, 3, 31]).map_err(u8::from),
+            working.look(&[0, 31]).map_err(u8::from),
+            working.look(&[1, 0]).map_err(u8::from),
+            working.look(&[]).map_err(u8::from),
         ];
         let eulers = [
-            numbered(working.euler(0)),
-            numbered(working.euler(1)),
-            numbered(working.euler(2)),
-            numbered(working.euler(7)),
-            numbered(working.euler(6)),
-            numbered(working.euler(8)),
+            working.euler(0).map_err(u8::from),
+            working.euler(1).map_err(u8::from),
+            working.euler(2).map_err(u8::from),
+            working.euler(7).map_err(u8::from),
+            working.euler(6).map_err(u8::from),
+            working.euler(8).map_err(u8::from),
         ];
         (lays, marks, masks, eulers, working.held())
     }
@@ -99,10 +93,10 @@ mod tests {
     fn at_the_range<S: Store>(store: &mut S) -> [Result<usize, u8>; 4] {
         let mut draft = Draft::open(store);
         [
-            numbered(draft.lay(&[30, 31])),
-            numbered(draft.lay(&[31, 32])),
-            numbered(draft.mark(1, &[31, 32])),
-            numbered(draft.mark(1, &[31])),
+            draft.lay(&[30, 31]).map_err(u8::from),
+            draft.lay(&[31, 32]).map_err(u8::from),
+            draft.mark(1, &[31, 32]).map_err(u8::from),
+            draft.mark(1, &[31]).map_err(u8::from),
         ]
     }
 

@@ -3,7 +3,6 @@
 
 #[cfg(test)]
 mod tests {
-    use model::refusal::ModelRefusal;
     use model::stages::{Draft, Working};
     use order::record::Record;
     use simplex::simplex::Simplex;
@@ -18,25 +17,20 @@ mod tests {
         }
     }
 
-    // A refusal by its number.
-    fn numbered<T>(answer: Result<T, ModelRefusal>) -> Result<T, u8> {
-        answer.map_err(u8::from)
-    }
-
     fn lay<S: Store>(draft: &mut Draft<'_, S>, list: &[u16]) -> Result<usize, u8> {
-        numbered(draft.lay(list))
+        draft.lay(list).map_err(u8::from)
     }
 
     fn mark<S: Store>(draft: &mut Draft<'_, S>, part: u16, list: &[u16]) -> Result<usize, u8> {
-        numbered(draft.mark(part, list))
+        draft.mark(part, list).map_err(u8::from)
     }
 
     fn look<S: Store>(working: &Working<'_, S>, list: &[u16]) -> Result<u8, u8> {
-        numbered(working.look(list))
+        working.look(list).map_err(u8::from)
     }
 
     fn euler<S: Store>(working: &Working<'_, S>, part: u16) -> Result<i32, u8> {
-        numbered(working.euler(part))
+        working.euler(part).map_err(u8::from)
     }
 
     fn lone_tetrahedron<S: Store>(rt: &impl Abort, store: &mut S) {
