@@ -25,6 +25,7 @@ pub(crate) fn unmarked_faces<S: Store>(store: &S, part: Part, s: &Simplex) -> us
         .count()
 }
 
+// Laying and marking stay two loops: what they ask for differs, and when they put.
 // Puts every absent face, for which there is room.
 pub(crate) fn lay_faces<S: Store>(store: &mut S, s: &Simplex)
     requires range { below (S.Store.contents store.old).range (vertices s.now) ≡ true }

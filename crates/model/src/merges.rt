@@ -13,7 +13,7 @@ use simplex::simplex::Simplex;
 use store::meaning::Store;
 use store::walk::Simplexes;
 
-// The vertex v goes into u.
+// The vertex v goes into u. That the two differ is asked by the calls that need it; a tie is looked for at any two.
 #[derive(Clone, Copy, Debug, PartialEq, Eq)]
 pub(crate) struct Merge {
     pub(crate) u: u16,

@@ -24,6 +24,7 @@ impl Merge {
         let Merge { u, v } = self;
         let mut over_u = Bases::of(store, self);
         let mut over_v = Bases::of(store, Merge { u: v, v: u });
+        // The number of pairs so far goes into each call, and is the answer.
         let mut n = 0;
         while let Some(base) = lesser_base(over_u.first(), over_v.first()) {
             trail.note_pair(n, mask_with(store, base, u), mask_with(store, base, v))?;
