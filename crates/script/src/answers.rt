@@ -3,6 +3,7 @@ ghost use Rattle.std.specs.Prelude.{◌≡◌, ◌++◌, Some, string_bytes, OnO
 ghost use Rattle.script.specs.Text.{reply_text, refusal_text, line_of};
 
 use crate::refusal::ScriptRefusal;
+use file::entry::Site;
 use file::refusal::FileRefusal;
 use std::alloc::AllocError;
 use std::fmt;
@@ -35,9 +36,11 @@ impl fmt::Display for ScriptRefusal {
         match self {
             ScriptRefusal::Load(FileRefusal::At(stopped)) => {
                 let number = u8::from(stopped.cause);
-                let section = stopped.site.section;
-                let entry = stopped.site.entry;
-                let place = stopped.site.place;
+                let Site {
+                    section,
+                    entry,
+                    place,
+                } = stopped.site;
                 write!(f, "no {number} {section} {entry} {place}")
             }
             refusal => {
