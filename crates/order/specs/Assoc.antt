@@ -4,7 +4,7 @@
 --     put c k o rows     k has the value o, or none where o is None; every other key is as before
 --     later c k rows     the records whose keys are greater than k
 --     next c k rows      the least key greater than k, if there is one
-use Rattle.std.specs.Prelude.{◌≡◌, ℕ, zero, ◌+◌, Bool, true, ◌&&◌, List, [], ◌∷◌, Some, None, Option}
+use Rattle.std.specs.Prelude.{◌≡◌, ℕ, zero, ◌+◌, Bool, true, ◌&&◌, List, [], ◌∷◌, map, Some, None, Option}
 use Rattle.std.specs.declared.cmp.Ordering.TheVariants.{Less, Equal, Greater}
 use Rattle.std.specs.declared.cmp.Ordering.{Ordering}
 use Rattle.std.specs.Ordering.{is_lt, ordering_reverse}
@@ -45,6 +45,9 @@ put c k o (r ∷ rs) = by (c r.key k) (r ∷ put c k o rs) (bind k o rs) (bind k
 abbrev pub later : {K V : Type 0} → (K → K → Ordering) → K → List (Record K V) → List (Record K V)
 later c k [] = []
 later c k (r ∷ rs) = by (c r.key k) (later c k rs) rs (r ∷ rs)
+
+abbrev pub keys : {K V : Type 0} → List (Record K V) → List K
+keys rows = map (λ r. r.key) rows
 
 abbrev pub first : {K V : Type 0} → List (Record K V) → Option K
 first [] = None

@@ -3,7 +3,6 @@ use Rattle.std.proofs.Common.{◌≡◌, ℕ, ◌+◌, ◌<◌, Bool, true, fals
 use Rattle.std.proofs.lemmas.List.{length-map, get_or-map, take_more, drop_more}
 use Rattle.order.specs.Assoc.{lookup}
 use Rattle.order.specs.declared.record.Record.{Record}
-use Rattle.std.specs.Option.{ok_or}
 use Rattle.std.specs.Result.{result_ok}
 use Rattle.search.specs.Classes.{merged, united, joined_on, gathered_from, gathered, counted}
 use Rattle.search.specs.Nodes.{own, keys}
@@ -16,11 +15,7 @@ one_of [] n h = absurd (omega arith)
 one_of (r ∷ rs) n h = r
 
 -- a count that is answered is that of the nodes, which find room
--- what a result that is made of an option says of it
-pub told : {X E : Type 0} (o : Option X) (e : E) {r : Result X E} → r ≡ ok_or o e → result_ok r ≡ o
-told None e h = ap result_ok h
-told (Some x) e h = ap result_ok h
-
+-- an error says nothing of what there is
 pub none_told : {X E : Type 0} (r : Result X E) → is_err r ≡ true → result_ok r ≡ None
 none_told (Ok x) h = cc
 none_told (Err e) h = refl

@@ -2,6 +2,7 @@
 use Rattle.std.specs.Prelude.{◌≡◌, ℕ, ◌+◌, ◌<◌, ◌≤◌, Bool, true, ◌⊎◌, List, [], ◌∷◌, ◌++◌, map, drop, Some, None, filter, Option, slice_index_or}
 use Rattle.std.specs.declared.cmp.Ordering.{Ordering}
 use Rattle.order.specs.Assoc.{rising, later}
+pub use Rattle.order.specs.Assoc.{keys}
 use Rattle.order.specs.declared.record.Record.{Record}
 
 -- x is one of the list
@@ -26,9 +27,6 @@ left c (Some a) rows = later c a rows
 abbrev pub Amid : {N : Type 0} → List N → Option N → Type 0
 Amid nodes None = Unit {0}
 Amid nodes (Some a) = Member a nodes
-
-abbrev pub keys : {N : Type 0} → List (Record N N) → List N
-keys rows = map (λ r. r.key) rows
 
 -- the keys of the records stand in order, and x comes after them
 abbrev pub Leads : {N : Type 0} → (N → N → Ordering) → List (Record N N) → N → Type 0

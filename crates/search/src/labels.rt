@@ -9,12 +9,13 @@ use std::cmp::Ordering;
 fn relabel<N: Ord + Copy>(row: Record<N, N>, a: N, b: N) -> Record<N, N>
     ensures { result ≡ relabelled N.Ord.cmp a b row }
 {
-    match row.value.cmp(&a) {
-        Ordering::Equal => Record {
+    if row.value == a {
+        Record {
             key: row.key,
             value: b,
-        },
-        _ => row,
+        }
+    } else {
+        row
     }
 }
 
@@ -45,7 +46,7 @@ pub(crate) fn unite<N: Ord + Copy>(rows: &mut [Record<N, N>], i: usize, j: usize
 fn is_own<N: Ord>(row: &Record<N, N>) -> bool
     ensures { result ≡ is_own N.Ord.cmp row.now }
 {
-    matches!(row.key.cmp(&row.value), Ordering::Equal)
+    row.key == row.value
 }
 
 // How many nodes are labelled with themselves.

@@ -11,22 +11,26 @@ use order::record::Record;
 use table::front::front;
 use table::rows::Table;
 
+// There are fewer records than nodes.
+#[derive(Clone, Copy, Debug, PartialEq, Eq)]
+pub struct TooFewRecords;
+
 // How many nodes there are, if there are no more than `room`.
-fn count<J: Joining>(graph: &J, room: usize) -> Option<usize>
+fn count<J: Joining>(graph: &J, room: usize) -> Result<usize, TooFewRecords>
     ensures sorted { Ordered J.Node.Ord.cmp (J.Joining.nodes graph.now) }
-    ensures value { result ≡ counted room (length (J.Joining.nodes graph.now)) }
+    ensures value { result_ok result ≡ counted room (length (J.Joining.nodes graph.now)) }
 {
     let mut n = 0;
     let mut at = None;
-    // An iterator would have to carry that it stands at a node, for which `next` answers; this is no longer.
+    // An iterator would have to carry that it stands at a node, for which `next` answers; that would be no shorter.
     while let Some(node) = graph.next(at) {
         if n == room {
-            return None;
+            return Err(TooFewRecords);
         }
         n += 1;
         at = Some(node);
     }
-    Some(n)
+    Ok(n)
 }
 
 // Lists the nodes in the first records, each labelled with itself.
@@ -36,6 +40,7 @@ fn list<J: Joining>(graph: &J, rows: &mut [Record<J::Node, J::Node>])
 {
     let mut table = Table::open(rows);
     let mut at = None;
+    // As in `count`, by the graph's own `next`.
     while let Some(node) = graph.next(at) {
         // There is a record for each node, so that none is refused.
         let _ = table.put(node, node);
@@ -58,10 +63,6 @@ fn join<J: Joining>(graph: &J, rows: &mut [Record<J::Node, J::Node>], at: usize)
     }
 }
 
-// There are fewer records than nodes.
-#[derive(Clone, Copy, Debug, PartialEq, Eq)]
-pub struct TooFewRecords;
-
 // Gathers the nodes into classes. The first records then hold the nodes in order, each with the least node of its class.
 // Nothing is written where there are fewer records than nodes.
 pub fn search<J: Joining>(
@@ -70,7 +71,7 @@ pub fn search<J: Joining>(
 ) -> Result<Classes, TooFewRecords>
     ensures { Searches J.Node.Ord.cmp (J.Joining.joins graph.now) (J.Joining.nodes graph.now) rows.old rows.new (result_ok result) }
 {
-    let n = count(graph, rows.len()).ok_or(TooFewRecords)?;
+    let n = count(graph, rows.len())?;
     list(graph, rows);
     let labels = &mut rows[0..n];
     // Each turn changes labels of earlier records too, so it takes all of them and a place.

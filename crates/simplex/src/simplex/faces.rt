@@ -35,7 +35,7 @@ impl Simplex {
 }
 
 // The faces of a simplex from a place on.
-#[derive(Clone, Copy, Debug)]
+#[derive(Clone, Debug, Drop)]
 pub struct Faces {
     simplex: Simplex,
     next: usize,
@@ -55,6 +55,8 @@ impl Iterator for Faces {
     }
 }
 
+// For each size the faces by number, in the order of the definition. That the vertices rise is what the type of the simplex
+// carries, out of which they were taken.
 fn edge_face(a: u16, b: u16, i: usize) -> Option<Simplex>
     requires { a < b }
     ensures { found result ≡ slice_get (faces (a ∷ (b ∷ []))) i }

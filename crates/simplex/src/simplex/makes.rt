@@ -74,8 +74,7 @@ pub(crate) fn simplex(shape: Shape) -> Simplex
     Simplex { shape }
 }
 
-// For each size there is a function of its own: the simplex that it answers has another size, and a size can't be computed
-// from another in a type.
+// One function for each size. One over a list of vertices would build a list and check it as a simplex again at every call.
 fn edge_without(a: u16, b: u16, v: u16) -> Option<Simplex>
     requires { rises (a ∷ (b ∷ [])) ≡ true }
     ensures { vertices_or_none result ≡ less v (a ∷ (b ∷ [])) }
@@ -121,6 +120,7 @@ fn tetrahedron_without(a: u16, b: u16, c: u16, d: u16, v: u16) -> Option<Simplex
     }
 }
 
+// One for each size here too.
 fn point_with(a: u16, v: u16) -> Option<Simplex>
     ensures { found result ≡ fitted (plus v (a ∷ [])) }
 {

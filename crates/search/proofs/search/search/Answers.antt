@@ -6,7 +6,7 @@ use Rattle.search.specs.Classes.{joined_on, gathered_from, gathered, class_count
 use Rattle.search.specs.Nodes.{own, keys, Ordered}
 use Rattle.search.specs.declared.classes.Classes.{Classes}
 use Rattle.search.proofs.Classing.{gathered_classed}
-use Rattle.search.proofs.Gathering.{one_of, told, none_told, counted_some, counted_none, keys_own, keys_joined, gathered_on}
+use Rattle.search.proofs.Gathering.{one_of, none_told, counted_some, counted_none, keys_own, keys_joined, gathered_on}
 use Rattle.search.proofs.Walks.{itself}
 use Rattle.search.proofs.search.search.Goals as goal
 
@@ -17,7 +17,7 @@ pub join-requires : goal.join-requires
 join-requires g c =
     let nodes = g.J.Joining.nodes c.args.graph.now in
     let l = c.loop-at.invariant in
-    let n = counted_some c.in_ok-n.n (length c.args.rows.now) (length nodes) (told c.count.result _ c.in_ok-n.ensures.value ∙ c.count.ensures.value) in
+    let n = counted_some c.in_ok-n.n (length c.args.rows.now) (length nodes) c.in_ok-n.ensures.value in
     record {
       within = omega (arith, n.1, c.loop-at-test.true, ap length l.0, length-map c.loop-at.labels (λ r. r.key));
       sorted = subst (Ordered g.J.Node.Ord.cmp) (sym l.0) c.count.ensures.sorted;
@@ -26,7 +26,7 @@ join-requires g c =
 pub loop-at-init : goal.loop-at-init
 loop-at-init g c =
     let nodes = g.J.Joining.nodes c.args.graph.now in
-    let n = counted_some c.in_ok-n.n (length c.args.rows.now) (length nodes) (told c.count.result _ c.in_ok-n.ensures.value ∙ c.count.ensures.value) in
+    let n = counted_some c.in_ok-n.n (length c.args.rows.now) (length nodes) c.in_ok-n.ensures.value in
     let front : take (c.in_ok-n.n - 0) c.list.new.rows ≡ own nodes = ap (take (c.in_ok-n.n - 0)) c.list.ensures ∙ take_at (own nodes) (drop (length nodes) c.args.rows.now) (c.in_ok-n.n - 0) (omega (arith, length-map nodes itself, n.1)) in
     (ap keys front ∙ keys_own nodes, ap (λ rows. gathered_from g.J.Node.Ord.cmp (g.J.Joining.joins c.args.graph.now) [] rows nodes) front)
 
@@ -38,7 +38,7 @@ loop-at-preserved g c =
     let at = c.loop-at.at in
     let labels = c.loop-at.labels in
     let l = c.loop-at.invariant in
-    let n = counted_some c.in_ok-n.n (length c.args.rows.now) (length nodes) (told c.count.result _ c.in_ok-n.ensures.value ∙ c.count.ensures.value) in
+    let n = counted_some c.in_ok-n.n (length c.args.rows.now) (length nodes) c.in_ok-n.ensures.value in
     let within : at < length labels = omega (arith, n.1, c.loop-at-test.true, ap length l.0, length-map labels (λ r. r.key)) in
     let d = one_of labels at within in
     let is = c.join.ensures d ∙ ap (λ front. joined_on rank J (take at front) labels (get_or labels at d).key) l.0 in
@@ -54,7 +54,7 @@ returns g c =
     let labels = c.loop-at.labels in
     let rows = c.args.rows.now in
     let l = c.loop-at.invariant in
-    let n = counted_some c.in_ok-n.n (length rows) (length nodes) (told c.count.result _ c.in_ok-n.ensures.value ∙ c.count.ensures.value) in
+    let n = counted_some c.in_ok-n.n (length rows) (length nodes) c.in_ok-n.ensures.value in
     let all : labels ≡ gathered rank J nodes = ap (gathered_from rank J (take at nodes) labels) (sym (drop_all at nodes (omega (arith, n.1, c.loop-at-test.false)))) ∙ l.1 in
     let rest : drop (c.in_ok-n.n - 0) c.list.new.rows ≡ drop (length nodes) rows = ap (drop (c.in_ok-n.n - 0)) c.list.ensures ∙ drop_at (own nodes) (drop (length nodes) rows) (c.in_ok-n.n - 0) (omega (arith, length-map nodes itself, n.1)) in
     record {
@@ -70,7 +70,7 @@ returns-in_err-n g c =
     let J = g.J.Joining.joins c.args.graph.now in
     let nodes = g.J.Joining.nodes c.args.graph.now in
     let rows = c.args.rows.now in
-    let short = counted_none (length rows) (length nodes) (told c.count.result _ c.in_err-n.ensures.value ∙ c.count.ensures.value) in
+    let short = counted_none (length rows) (length nodes) c.in_err-n.ensures.value in
     record {
       value = none_told c.from_residual.result c.from_residual.ensures.0 ∙ sym (cond-false _ (Some (classes (length nodes) (class_count rank (gathered rank J nodes)))) None short);
       after = sym (cond-false _ (gathered rank J nodes ++ drop (length nodes) rows) rows short);
