@@ -1,4 +1,5 @@
 pub mod Sizes
+pub mod Takings
 pub mod Pairs
 pub mod Written
 pub mod Readable
