@@ -1,8 +1,10 @@
 // The changes of a draft, in any store.
-ghost use Rattle.std.specs.Prelude.{◌≡◌, []};
+ghost use Rattle.std.specs.Prelude.{◌≡◌, cond, [], Ok, Err};
 ghost use Rattle.complex.specs.Model.{Legal};
+ghost use Rattle.complex.specs.Simplex.{below};
 ghost use Rattle.simplex.specs.Simplexes.{vertices};
 ghost use Rattle.store.specs.Contents.{holding};
+ghost use Rattle.model.specs.declared.refusal.ModelRefusal.TheVariants.{Range};
 ghost use Rattle.model.specs.Calls.{lay_simplex, laid_simplex, mark_simplex, marked_simplex};
 
 use crate::faces::{absent_faces, lay_faces, mark_faces, unmarked_faces};
@@ -16,8 +18,19 @@ pub(crate) fn remove_all<S: Store>(store: &mut S)
     ensures { S.Store.contents store.new ≡ holding (S.Store.contents store.old) [] }
 {
     // The store changes on the way, so it is asked anew for its first simplex each time.
-    while let Some(s) = (*store).after(None) {
+    while let Some(s) = store.after(None) {
         let _ = store.put(s, 0);
+    }
+}
+
+// Refuses a simplex with a vertex that is not below the range.
+pub(crate) fn in_range<S: Store>(store: &S, simplex: &Simplex) -> Result<(), ModelRefusal>
+    ensures { result ≡ cond (below (S.Store.contents store.now).range (vertices simplex.now)) (Ok tt) (Err Range) }
+{
+    if simplex.within(store.range()) {
+        Ok(())
+    } else {
+        Err(ModelRefusal::Range)
     }
 }
 
@@ -26,14 +39,12 @@ pub(crate) fn lay_simplex<S: Store>(store: &mut S, simplex: &Simplex) -> Result<
     ensures value { result ≡ lay_simplex (S.Store.contents store.old) (vertices simplex.now) }
     ensures after { S.Store.contents store.new ≡ laid_simplex (S.Store.contents store.old) (vertices simplex.now) }
 {
-    if !simplex.within((*store).range()) {
-        return Err(ModelRefusal::Range);
-    }
-    if (*store).look(simplex) != 0 {
+    in_range(store, simplex)?;
+    if store.look(simplex) != 0 {
         return Err(ModelRefusal::Held);
     }
     let absent = absent_faces(store, simplex);
-    if (*store).held() + absent > (*store).limit() {
+    if store.held() + absent > store.limit() {
         return Err(ModelRefusal::Full);
     }
     lay_faces(store, simplex);
@@ -41,6 +52,7 @@ pub(crate) fn lay_simplex<S: Store>(store: &mut S, simplex: &Simplex) -> Result<
 }
 
 // Marks a simplex and its faces with a part, and answers how many masks changed.
+// That the model is legal is a clause and not part of a type: a bare store need not be legal between two puts.
 pub(crate) fn mark_simplex<S: Store>(
     store: &mut S,
     part: Part,
@@ -50,10 +62,8 @@ pub(crate) fn mark_simplex<S: Store>(
     ensures value { result ≡ mark_simplex (S.Store.contents store.old) part.number (vertices simplex.now) }
     ensures after { S.Store.contents store.new ≡ marked_simplex (S.Store.contents store.old) part.number (vertices simplex.now) }
 {
-    if !simplex.within((*store).range()) {
-        return Err(ModelRefusal::Range);
-    }
-    if (*store).look(simplex) == 0 {
+    in_range(store, simplex)?;
+    if store.look(simplex) == 0 {
         return Err(ModelRefusal::Absent);
     }
     let unmarked = unmarked_faces(store, part, simplex);

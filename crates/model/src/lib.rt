@@ -3,7 +3,7 @@
 
 mod bases;
 mod edits;
-pub mod faces;
+mod faces;
 mod merges;
 mod notes;
 pub mod part;

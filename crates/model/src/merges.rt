@@ -13,7 +13,7 @@ use simplex::simplex::Simplex;
 use store::meaning::Store;
 use store::walk::Simplexes;
 
-// The vertex v goes into u. That the two differ is asked by the calls that need it; a tie is looked for at any two.
+// The vertex v goes into u. A tie is looked for where u and v are equal too, so that they differ is asked by the calls that need it.
 #[derive(Clone, Copy, Debug, PartialEq, Eq)]
 pub(crate) struct Merge {
     pub(crate) u: u16,
@@ -22,15 +22,16 @@ pub(crate) struct Merge {
 
 impl Merge {
     // Every simplex with v goes to the one with u in the place of v, which gets its bits.
+    // That the model is legal is a clause and not part of a type: between two of these merges it need not be legal.
     pub(crate) fn run<S: Store>(self, store: &mut S)
-        requires apart { self.u ≢ self.v }
+        requires distinct { self.u ≢ self.v }
         requires range { below (S.Store.contents store.old).range (self.u ∷ []) ≡ true }
         requires legal { Legal (S.Store.contents store.old).model }
         ensures { S.Store.contents store.new ≡ holding (S.Store.contents store.old) (collapse self.u self.v (S.Store.contents store.old).model) }
     {
         // The store changes on the way, so it is asked anew for each next simplex.
         let mut at = None;
-        while let Some(t) = (*store).after(at) {
+        while let Some(t) = store.after(at) {
             if t.has(self.v) {
                 self.merge_one(store, &t);
             }
@@ -45,11 +46,11 @@ impl Merge {
         requires taken { has self.v (vertices t.now) ≡ true }
         ensures { S.Store.contents store.new ≡ holding (S.Store.contents store.old) (merge_one self.u self.v (S.Store.contents store.old).model (vertices t.now)) }
     {
-        let mask = (*store).look(t);
+        let mask = store.look(t);
         let _ = store.put(*t, 0);
         if !t.has(self.u) {
             let moved = self.replaced(t);
-            let joined = (*store).look(&moved) | mask;
+            let joined = store.look(&moved) | mask;
             let _ = store.put(moved, joined);
         }
     }

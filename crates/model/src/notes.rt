@@ -14,6 +14,7 @@ use trail::trail::Trail;
 
 impl Merge {
     // Writes the pairs of its record behind the last record, and answers their number, if the record fits.
+    // That the model is legal is a clause and not part of a type: a bare store need not be legal between two puts.
     pub(crate) fn note<S: Store>(self, store: &S, trail: &mut Trail) -> Result<usize, TrailFull>
         requires distinct { self.u ≢ self.v }
         requires legal { Legal (S.Store.contents store.now).model }
@@ -24,7 +25,8 @@ impl Merge {
         let Merge { u, v } = self;
         let mut over_u = Bases::of(store, self);
         let mut over_v = Bases::of(store, Merge { u: v, v: u });
-        // The number of pairs so far goes into each call, and is the answer.
+        // Each call takes the number of its pair, and the number of all is the answer, which `enumerate` would not leave.
+        // An iterator over the two walks would be no shorter.
         let mut n = 0;
         while let Some(base) = lesser_base(over_u.first(), over_v.first()) {
             trail.note_pair(n, mask_with(store, base, u), mask_with(store, base, v))?;

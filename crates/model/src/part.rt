@@ -15,7 +15,7 @@ pub struct Part {
 pub struct UnknownPart;
 
 // The parts from one on, in order.
-#[derive(Clone, Copy, Debug)]
+#[derive(Clone, Debug, Drop)]
 pub struct Parts {
     next: u8,
 }

@@ -4,7 +4,7 @@ ghost use Rattle.complex.specs.Model.{Legal};
 ghost use Rattle.store.specs.Contents.{Contents, Stored};
 ghost use Rattle.model.specs.Calls.{emptied, Lays, Marks, look_answer, euler_answer};
 
-use crate::edits::{lay_simplex, mark_simplex, remove_all};
+use crate::edits::{in_range, lay_simplex, mark_simplex, remove_all};
 use crate::part::Part;
 use crate::questions::euler;
 use crate::refusal::ModelRefusal;
@@ -27,6 +27,7 @@ impl<'a, S: Store> Model for Draft<'a, S> {
 }
 
 // A store whose model is legal, once its draft is closed. Clauses see it as what the store holds.
+// It has the fields of `Draft`: two types keep the calls of the stages apart, and one type with a marker for the stage would be no plainer.
 #[derive(Drop)]
 pub struct Working<'a, S: Store> {
     store: &'a mut S,
@@ -62,7 +63,7 @@ impl<'a, S: Store> Draft<'a, S> {
         ensures stored { Stored self.now }
         ensures legal { Legal self.now.model }
     {
-        (*self.store).held()
+        self.store.held()
     }
 
     // Adds a simplex and its absent faces, and answers how many it added.
@@ -111,11 +112,8 @@ impl<'a, S: Store> Working<'a, S> {
         ensures { result ≡ look_answer self.now vertices.now }
     {
         let simplex = Simplex::try_from(vertices)?;
-        if simplex.within(self.store.range()) {
-            Ok(self.store.look(&simplex))
-        } else {
-            Err(ModelRefusal::Range)
-        }
+        in_range(&*self.store, &simplex)?;
+        Ok(self.store.look(&simplex))
     }
 
     // The Euler number of the body or a part.

@@ -18,6 +18,7 @@ pub trait Store {
     ghost stored: { (x : Self) → Stored (contents x) };
 
     // The mask of a simplex, or 0 if it is absent.
+    // Not an Option: mask 0 stands for absence in the definition of a model.
     fn look(&self, s: &Simplex) -> u8
         ensures { result ≡ mask (contents self.now).model (vertices s.now) };
 

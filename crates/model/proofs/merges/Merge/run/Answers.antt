@@ -15,14 +15,14 @@ loop-t-smaller-then-has g c =
     let st = g.S.Store.stored c.loop-t.store in
     let at = vertices_or_none c.loop-t.at in
     let t = vertices c.in-Some.t in
-    merging_leaves_less now (g.S.Store.contents c.merge_one.new.store) c.args.self.u c.args.self.v at t c.requires.apart st (g.S.Store.stored c.merge_one.new.store) (rises_rising t c.in-Some.t.rising) (sym c.if-has.ensures) (next_held now at t st c.in-Some.ensures) c.merge_one.ensures
+    merging_leaves_less now (g.S.Store.contents c.merge_one.new.store) c.args.self.u c.args.self.v at t c.requires.distinct st (g.S.Store.stored c.merge_one.new.store) (rises_rising t c.in-Some.t.rising) (sym c.if-has.ensures) (next_held now at t st c.in-Some.ensures) c.merge_one.ensures
 
 pub loop-t-preserved-then-has : goal.loop-t-preserved-then-has
 loop-t-preserved-then-has g c =
     let start = g.S.Store.contents c.args.store.now in
     let now = g.S.Store.contents c.loop-t.store in
     let t = vertices c.in-Some.t in
-    merged_on start now (g.S.Store.contents c.merge_one.new.store) c.args.self.u c.args.self.v (vertices_or_none c.loop-t.at) t c.requires.apart (g.S.Store.stored c.loop-t.store) (rises_rising t c.in-Some.t.rising) (sym c.if-has.ensures) c.in-Some.ensures c.loop-t.invariant.0 c.loop-t.invariant.1 c.merge_one.ensures
+    merged_on start now (g.S.Store.contents c.merge_one.new.store) c.args.self.u c.args.self.v (vertices_or_none c.loop-t.at) t c.requires.distinct (g.S.Store.stored c.loop-t.store) (rises_rising t c.in-Some.t.rising) (sym c.if-has.ensures) c.in-Some.ensures c.loop-t.invariant.0 c.loop-t.invariant.1 c.merge_one.ensures
 
 pub loop-t-smaller : goal.loop-t-smaller
 loop-t-smaller g c =
@@ -40,4 +40,4 @@ returns g c =
     let start = g.S.Store.contents c.args.store.now in
     let now = g.S.Store.contents c.loop-t.store in
     c.loop-t.invariant.0
-    ∙ ap (holding start) (done start now c.args.self.u c.args.self.v (vertices_or_none c.loop-t.at) c.requires.apart c.requires.legal (g.S.Store.stored c.args.store.now) (g.S.Store.stored c.loop-t.store) c.loop-t.invariant.1 c.in_default.ensures)
+    ∙ ap (holding start) (done start now c.args.self.u c.args.self.v (vertices_or_none c.loop-t.at) c.requires.distinct c.requires.legal (g.S.Store.stored c.args.store.now) (g.S.Store.stored c.loop-t.store) c.loop-t.invariant.1 c.in_default.ensures)
