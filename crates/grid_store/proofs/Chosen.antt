@@ -1,6 +1,6 @@
 -- At each place of the grid stands a simplex, and its place is that place.
-use Rattle.std.proofs.Common.{◌≡◌, ℕ, zero, suc, ◌+◌, ◌-◌, ◌<◌, ◌≤◌, true, false, cond, ltb, leb, ◌⊎◌, List, [], ◌∷◌, length, refl, ap, ◌∙◌, ap₂, inl, inr, add-one, arith}
-use Rattle.std.proofs.lemmas.Bool.{and_from, cases_Bool, cond-true, cond-false, cond_both, leb-true, leb-false, le-leb, lt-leb, ltb-true, ltb-false, lt-ltb}
+use Rattle.std.proofs.Common.{◌≡◌, ℕ, zero, suc, ◌+◌, ◌-◌, ◌<◌, ◌≤◌, true, false, cond, ltb, leb, ◌⊎◌, List, [], ◌∷◌, length, refl, ap, ◌∙◌, ap₂, inl, inr, arith}
+use Rattle.std.proofs.lemmas.Bool.{and_from, cases_Bool, cond_both, leb-true, leb-false, le-leb, ltb-true, ltb-false, lt-ltb}
 use Rattle.complex.specs.Simplex.{colex, rises, below}
 use Rattle.grid_store.specs.Places.{vertex_range, places, first_place, term, place, size_at, largest, chosen, simplex_at}
 use Rattle.grid_store.proofs.Choose.{choose_more, term_chooses}
@@ -35,18 +35,6 @@ largest_is k r (suc x) h b = go (largest_is k r x h) (cases_Bool (leb (term (suc
         let left : r - term (suc k) x < term k x = omega (arith, term_chooses (suc k) x h, term_chooses k x (omega arith), term_chooses (suc k) (suc x) h, choose_more x k) in
         rw e (record { ranged = omega arith; within = within; left = left })
     go more (inr e) = let m = more (leb-false _ r e) in rw e (record { ranged = omega (arith, m.ranged); within = m.within; left = m.left })
-
-pub larger_passed : (k r x : ℕ) → r < term k x → largest k r (x + 1) ≡ largest k r x
-unfolding largest
-larger_passed k r x h = ap (largest k r) (add-one x) ∙ cond-false _ _ _ (lt-leb (term k x) r h)
-
-pub largest_found : (k r x : ℕ) → term k x ≤ r → largest k r (x + 1) ≡ x
-unfolding largest
-largest_found k r x h = ap (largest k r) (add-one x) ∙ cond-true _ _ _ (le-leb (term k x) r h)
-
-pub largest_none : (k r : ℕ) → largest k r 0 ≡ 0
-unfolding largest
-largest_none k r = refl
 
 -- s are rising vertices, before which each vertex below n may stand
 record Open (n : ℕ) (s : List ℕ) : Type 0 where

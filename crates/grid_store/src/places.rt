@@ -20,12 +20,13 @@ const TETRAHEDRA: usize = 5488;
 
 pub(crate) const PLACES: usize = 41448;
 
-// What the k-th vertex adds to the place.
+// What the k-th vertex adds to the place. Vertices are counted from 1, here as in the definition: k and the sizes below are
+// quantities that a loop counts and a sum adds one to, so that no type of their own is plainer than `1 ≤ k`.
 fn term(k: usize, x: u16) -> usize
     requires { (x < vertex_range) × (1 ≤ k) × (k ≤ 4) }
     ensures { result ≡ term k x }
 {
-    let x = x as usize;
+    let x = usize::from(x);
     let y = x.saturating_sub(1);
     let z = x.saturating_sub(2);
     match k {
@@ -98,19 +99,14 @@ fn largest(k: usize, r: usize, n: u16) -> u16
     requires { (1 ≤ k) × (k ≤ 4) × (n ≤ vertex_range) }
     ensures { result ≡ largest k r n }
 {
-    for x in (0..n).rev() {
-        if term(k, x) <= r {
-            return x;
-        }
-    }
-    0
+    (0..n).rev().find(|x| term(k, *x) <= r).unwrap_or(0)
 }
 
 // The simplex at a place. The last vertex is found first; each is the largest whose term is within what is left of the place.
 // So they fill an array from its end; a vector grows at the other end.
-pub(crate) fn simplex_at(p: usize) -> Option<Simplex>
+pub(crate) fn simplex_at(p: usize) -> Simplex
     requires { p < places }
-    ensures { found result ≡ Some (simplex_at p) }
+    ensures { vertices result ≡ simplex_at p }
 {
     let size = size_at(p);
     let mut vertices = [0; 4];
@@ -121,7 +117,7 @@ pub(crate) fn simplex_at(p: usize) -> Option<Simplex>
         rest -= term(k + 1, last);
         vertices[k] = last;
     }
-    Simplex::try_from(&vertices[..size]).ok()
+    Simplex::try_from(&vertices[..size]).unwrap()
 }
 
 // The places number the simplexes in range, one to one and in their order.

@@ -9,10 +9,6 @@ mod tests {
     use std::test::Fail;
     use store::meaning::Store;
 
-    fn simplex(list: &[u16]) -> Result<Simplex, Fail> {
-        Simplex::try_from(list).map_err(|_| Fail::new("not a simplex"))
-    }
-
     // Puts a simplex alone into the grid, over bytes of which one is left over: only the byte at its place and that one are set.
     fn put_alone(
         rt: &impl Abort,
@@ -21,7 +17,10 @@ mod tests {
         place: usize,
     ) -> Result<(), Fail> {
         let mut store = GridStore::open(bytes);
-        assert_eq!(rt; store.put(simplex(list)?, 5).map_err(u8::from), Ok(()));
+        assert_eq!(rt;
+            store.put(Simplex::try_from(list)?, 5).map_err(u8::from),
+            Ok(())
+        );
         assert_eq!(rt; store.held(), 1);
         for (i, byte) in bytes.iter().enumerate() {
             let expected = if i == place {
@@ -77,19 +76,19 @@ mod tests {
     #[test]
     fn holds_simplexes_in_order(rt: HostRuntime) -> Result<(), Fail> {
         let list = [
-            simplex(&[7])?,
-            simplex(&[2, 5])?,
-            simplex(&[2, 5, 7])?,
-            simplex(&[28, 29, 30, 31])?,
+            Simplex::try_from([7].as_slice())?,
+            Simplex::try_from([2, 5].as_slice())?,
+            Simplex::try_from([2, 5, 7].as_slice())?,
+            Simplex::try_from([28, 29, 30, 31].as_slice())?,
         ];
         hold(&rt, &mut [1; 41448], &list);
         Ok(())
     }
 
     fn put_around_the_range(rt: &impl Abort, bytes: &mut [u8]) -> Result<(), Fail> {
-        let inside = simplex(&[0, 31])?;
-        let outside = simplex(&[0, 32])?;
-        let triangle = simplex(&[0, 1, 2])?;
+        let inside = Simplex::try_from([0, 31].as_slice())?;
+        let outside = Simplex::try_from([0, 32].as_slice())?;
+        let triangle = Simplex::try_from([0, 1, 2].as_slice())?;
         let mut store = GridStore::open(bytes);
         assert_eq!(rt; store.range(), 32);
         assert_eq!(rt; store.put(outside, 1).map_err(u8::from), Err(3));
@@ -107,8 +106,8 @@ mod tests {
     }
 
     fn put_into_too_little(rt: &impl Abort, bytes: &mut [u8]) -> Result<(), Fail> {
-        let point = simplex(&[1])?;
-        let outside = simplex(&[32])?;
+        let point = Simplex::try_from([1].as_slice())?;
+        let outside = Simplex::try_from([32].as_slice())?;
         let mut store = GridStore::open(bytes);
         assert_eq!(rt; (store.held(), store.limit(), store.range()), (0, 0, 32));
         assert_eq!(rt; store.put(outside, 1).map_err(u8::from), Err(3));

@@ -9,15 +9,11 @@ mod tests {
     use store::meaning::Store;
     use table_store::records::TableStore;
 
-    fn simplex(list: &[u16]) -> Result<Simplex, Fail> {
-        Simplex::try_from(list).map_err(|_| Fail::new("not a simplex"))
-    }
-
     #[test]
     fn holds_simplexes_in_order(rt: HostRuntime) -> Result<(), Fail> {
-        let point = simplex(&[7])?;
-        let edge = simplex(&[2, 5])?;
-        let triangle = simplex(&[2, 5, 7])?;
+        let point = Simplex::try_from([7].as_slice())?;
+        let edge = Simplex::try_from([2, 5].as_slice())?;
+        let triangle = Simplex::try_from([2, 5, 7].as_slice())?;
         let mut records = [Record {
             key: point,
             value: 9u8,
@@ -42,8 +38,8 @@ mod tests {
 
     #[test]
     fn takes_vertices_below_its_range(rt: HostRuntime) -> Result<(), Fail> {
-        let inside = simplex(&[0, 4095])?;
-        let outside = simplex(&[0, 4096])?;
+        let inside = Simplex::try_from([0, 4095].as_slice())?;
+        let outside = Simplex::try_from([0, 4096].as_slice())?;
         let mut records = [Record {
             key: inside,
             value: 0u8,
@@ -59,9 +55,9 @@ mod tests {
 
     #[test]
     fn is_full_at_its_limit(rt: HostRuntime) -> Result<(), Fail> {
-        let point = simplex(&[1])?;
-        let edge = simplex(&[1, 2])?;
-        let other = simplex(&[1, 3])?;
+        let point = Simplex::try_from([1].as_slice())?;
+        let edge = Simplex::try_from([1, 2].as_slice())?;
+        let other = Simplex::try_from([1, 3].as_slice())?;
         let mut records = [Record {
             key: point,
             value: 0u8,
@@ -79,7 +75,7 @@ mod tests {
 
     #[test]
     fn over_no_records(rt: HostRuntime) -> Result<(), Fail> {
-        let point = simplex(&[1])?;
+        let point = Simplex::try_from([1].as_slice())?;
         let mut records = [Record {
             key: point,
             value: 0u8,

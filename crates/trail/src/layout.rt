@@ -10,7 +10,8 @@ pub(crate) const HEAD: usize = 6;
 
 pub(crate) const FOOT: usize = 2;
 
-// The length of the record of s pairs.
+// The length of the record of s pairs. That s fits into the two bytes of its number is asked here and by `enclose`, and told by
+// `head_at`: a narrower number or a ghost field in `Head` would ask more of who calls `commit`, which refuses too many pairs.
 pub(crate) fn record_length(s: usize) -> usize
     requires { s < 65536 }
     ensures { result ≡ record_length s }
@@ -37,7 +38,7 @@ pub(crate) fn head_at(bytes: &[u8], at: usize) -> Head
     Head {
         u: word_at(bytes, at),
         v: word_at(bytes, at + 2),
-        s: word_at(bytes, at + 4) as usize,
+        s: usize::from(word_at(bytes, at + 4)),
     }
 }
 

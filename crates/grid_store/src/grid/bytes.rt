@@ -96,6 +96,6 @@ impl<'a> GridStore<'a> {
         ensures { found result ≡ first (masks_from from (drop from (grid_of self.now.bytes.now))) }
     {
         let later = self.grid().get(from..)?;
-        simplex_at(from + first_set(later)?)
+        Some(simplex_at(from + first_set(later)?))
     }
 }

@@ -40,7 +40,7 @@ impl Trail {
         if self.used == 0 {
             return None;
         }
-        let s = word_at(&self.bytes, self.used - FOOT) as usize;
+        let s = usize::from(word_at(&self.bytes, self.used - FOOT));
         Some(head_at(&self.bytes, self.used - record_length(s)))
     }
 

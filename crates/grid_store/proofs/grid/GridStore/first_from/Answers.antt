@@ -1,5 +1,5 @@
 -- The first byte that is set tells the first simplex that is held.
-use Rattle.std.proofs.Common.{◌≡◌, ℕ, ◌+◌, List, length, drop, Option, sym, ap, ◌∙◌, arith}
+use Rattle.std.proofs.Common.{◌≡◌, ℕ, ◌+◌, List, length, drop, Option, Some, sym, ap, ◌∙◌, arith}
 use Rattle.std.proofs.lemmas.Slice.{between_to_end}
 use Rattle.std.specs.List.{position, slice_range}
 use Rattle.std.specs.Option.{option_map}
@@ -23,5 +23,5 @@ returns-in_err-first_set c =
 
 pub returns : goal.returns
 returns c =
-    c.simplex_at.ensures
+    ap Some c.simplex_at.ensures
     ∙ held_at c.args.from c.grid.result.now _ c.in_ok-later.later.now c.first_set.result _ c.grid.ensures c.in_ok-later.ensures.lookup.0.2 c.first_set.ensures c.in_ok-first_set.was
