@@ -8,11 +8,12 @@ pub enum Entry<'a> {
     Triangle(&'a [u8]),
     Wire(&'a [u8]),
     Point(&'a [u8]),
-    // with the part, 1 to 7
+    // with the part, 1 to 7; it is a number, since `mark` takes a number and judges it
     Marked(u8, &'a [u8]),
 }
 
 // Where an entry or a count stands: the section from 1, the entry from 0, and the first byte's place in the file.
+// The section is a number, since that is what is printed.
 #[derive(Debug, Clone, Copy, PartialEq, Eq)]
 pub struct Site {
     pub section: u8,

@@ -9,7 +9,7 @@ pub struct Reader<'a> {
     rest: &'a [u8],
     // the file's length
     size: usize,
-    // the number of the section that has begun, 0 before the first
+    // how many sections have begun, which is the number of the last of them
     section: u8,
     // the section's entry that is to come, and how many are left
     entry: u16,

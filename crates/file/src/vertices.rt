@@ -9,13 +9,9 @@ pub fn vertices(bytes: &[u8]) -> ArrayVec<u16, 4>
     ensures { result.items ≡ take 4 (pairs bytes.now) }
 {
     let mut numbers = ArrayVec::new();
-    let mut rest = bytes;
-    while let [hi, lo, more @ ..] = rest {
-        if numbers.is_full() {
-            break;
-        }
-        numbers.push(u16::from_be_bytes([*hi, *lo]));
-        rest = more;
+    let (pairs, _) = bytes.as_chunks::<2>();
+    for pair in pairs.iter().take(4) {
+        numbers.push(u16::from_be_bytes(*pair));
     }
     numbers
 }

@@ -51,7 +51,8 @@ impl fmt::Display for ScriptRefusal {
     }
 }
 
-// Writes an answer and the end of its line after what the text holds.
+// Writes an answer and the end of its line after what the text holds. `Result` has no `Display`, so the two kinds are
+// told apart here.
 pub fn push_line(text: &mut String, answer: &Answer) -> Result<(), AllocError>
     ensures { OnOk result (string_bytes text.new ≡ string_bytes text.old ++ line_of answer.now) }
 {

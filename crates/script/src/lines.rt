@@ -32,7 +32,8 @@ fn cut(bytes: &[u8], end: u8) -> (&[u8], &[u8])
     bytes.split_at(at.unwrap_or(bytes.len()))
 }
 
-// A decimal number of one to five digits, at most 65,535.
+// A decimal number of one to five digits, at most 65,535. This and the next three say what is read, if anything is;
+// that nothing is becomes an error at one place, in `try_from`.
 fn number(digits: &[u8]) -> Option<u16>
     ensures { result ≡ number_of digits.now }
 {

@@ -49,6 +49,8 @@ impl<'a> Reader<'a> {
     fn step(&mut self) -> Result<Option<Placed<'a>>, Flawed>
         ensures { Steps (to_come self.old) result (to_come self.new) }
     {
+        // A section may be empty, so counts are read until one is not 0. An iterator over the counts would borrow the
+        // reader that `begin` changes, and be no shorter.
         while self.left == 0 {
             if self.section == SECTIONS {
                 self.finish()?;

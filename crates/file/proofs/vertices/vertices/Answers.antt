@@ -1,15 +1,17 @@
 -- A pair of bytes makes one more number.
-use Rattle.std.proofs.Common.{◌<◌, length, sym, ◌∙◌, arith, rules}
-use Rattle.std.proofs.lemmas.Bool.{eqb-false}
-use Rattle.file.proofs.Pairs.{one_more}
+use Rattle.std.proofs.Common.{◌++◌, map, take, sym, ◌∙◌, arith}
+use Rattle.std.specs.Iterator.Adapters.{take_source, take_count}
+use Rattle.std.specs.Slice.Iter.{iter_rest}
+use Rattle.file.proofs.Pairs.{number_of_pair, one_more}
 use Rattle.file.proofs.vertices.vertices.Goals as goal
 
-pub loop-rest-preserved : goal.loop-rest-preserved
-loop-rest-preserved c =
-    let l = c.loop-rest in
-    let few = l.invariant.0 in
-    let room : length l.numbers.items < 4 = omega (arith, eqb-false _ _ (sym c.is_full.ensures.value ∙ c.if-is_full.false)) in
-    let more = c.push.ensures.len in (
+pub loop-pair-preserved : goal.loop-pair-preserved
+loop-pair-preserved c =
+    let l = c.loop-pair in
+    let step = c.in-Some.ensures.steps in
+    let s = l.pair-iterator in
+    let t = c.next.new.self in (
       omega arith,
-      one_more l.numbers.items c.push.new.self.items c.from_be_bytes.result l.rest.now c.push.ensures.items room (search rules) (search rules) ∙ l.invariant.1,
+      one_more l.numbers.items c.push.new.self.items c.from_be_bytes.result (take_count t) (take_count s) c.in-Some.pair.now (iter_rest (take_source t)) c.push.ensures.items (omega arith) step.1
+          ∙ (λ d. l.numbers.items ++ take (take_count s) (map number_of_pair (sym step.0 d))) ∙ l.invariant.1,
     )
