@@ -63,7 +63,8 @@ impl<'a, S: Store> Draft<'a, S> {
         ensures stored { Stored self.now }
         ensures legal { Legal self.now.model }
     {
-        self.store.held()
+        let store = &*self.store;
+        store.held()
     }
 
     // Adds a simplex and its absent faces, and answers how many it added.
