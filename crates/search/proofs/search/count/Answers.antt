@@ -1,11 +1,7 @@
 -- Each turn takes the first of the nodes that are left.
 use Rattle.std.proofs.Common.{length, ap, arith}
-use Rattle.std.proofs.lemmas.List.{length-map}
-use Rattle.search.proofs.Walks.{itself, node_step}
+use Rattle.search.proofs.Walks.{node_step}
 use Rattle.search.proofs.search.count.Goals as goal
-
-pub loop-node-init : goal.loop-node-init
-loop-node-init g c = (omega (arith, length-map (g.J.Joining.nodes c.args.graph.now) itself), tt, omega arith)
 
 pub loop-node-smaller : goal.loop-node-smaller
 loop-node-smaller g c =

@@ -1,17 +1,14 @@
 -- Each turn puts the next node behind those that the table holds.
-use Rattle.std.proofs.Common.{◌≡◌, ◌<◌, cond, ltb, [], ◌∷◌, ◌++◌, length, drop, is_some, Some, sym, refl, ap, ◌∙◌, append_assoc, append-nil, arith, rules}
-use Rattle.std.proofs.lemmas.List.{length-map, length-append, length-take-le, take-append-drop}
+use Rattle.std.proofs.Common.{◌≡◌, ◌<◌, cond, ltb, [], ◌∷◌, ◌++◌, length, is_some, Some, sym, ap, ◌∙◌, append_assoc, arith}
+use Rattle.std.proofs.lemmas.List.{length-map, length-append, length-take-le}
 use Rattle.std.proofs.lemmas.Bool.{lt-ltb, or_right}
 use Rattle.order.specs.Assoc.{rising, lookup, put}
 use Rattle.search.specs.Nodes.{own, left}
 use Rattle.table.specs.Held.{held}
 use Rattle.table.proofs.Shifts.{drop_further}
 use Rattle.search.proofs.Listing.{put_last}
-use Rattle.search.proofs.Walks.{itself, nothing_left, node_step}
+use Rattle.search.proofs.Walks.{itself, node_step}
 use Rattle.search.proofs.search.list.Goals as goal
-
-pub loop-node-init : goal.loop-node-init
-loop-node-init g c = (ap (λ rows. rows ++ own (g.J.Joining.nodes c.args.graph.now)) c.open-table.ensures.held, tt, refl, refl, refl)
 
 pub loop-node-smaller : goal.loop-node-smaller
 loop-node-smaller g c =
@@ -42,17 +39,3 @@ loop-node-preserved g c =
       c.put.ensures.unused ∙ drop_further t.len u.len t.records.now c.open-table.result.records.now (omega (arith, stored.long, ap length holds, length-append (held t) (itself x ∷ []), used)) l.3,
       c.put.ensures.lender ∙ l.4,
     )
-
-pub returns : goal.returns
-returns g c =
-    let nodes = g.J.Joining.nodes c.args.graph.now in
-    let t = c.loop-node.table in
-    let l = c.loop-node.invariant in
-    let named = l.4 ∙ c.open-table.ensures.lender in
-    let none = nothing_left _ (sym (c.in_default.ensures.next l.1)) in
-    let all : held t ≡ own nodes = sym (append-nil (held t)) ∙ sym (ap (λ rows. held t ++ rows) none) ∙ l.0 in
-    let used : t.len ≡ length nodes = sym (length-take-le t.len t.records.now t.within) ∙ ap length all ∙ length-map nodes itself in
-    let is : t.records.now ≡ own nodes ++ drop (length nodes) c.args.rows.now =
-    sym (take-append-drop t.len t.records.now) ∙ ap (λ rows. rows ++ drop t.len t.records.now) all
-    ∙ ap (λ rows. own nodes ++ rows) (l.3 ∙ ap (drop t.len) c.open-table.ensures.records ∙ ap (λ n. drop n c.args.rows.now) used) in
-    search rules

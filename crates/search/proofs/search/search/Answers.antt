@@ -1,9 +1,9 @@
 -- Each turn joins one more node with those before it; then all are gathered.
-use Rattle.std.proofs.Common.{◌≡◌, ℕ, ◌+◌, ◌-◌, ◌<◌, [], ◌++◌, length, get_or, take, drop, Some, None, sym, ap, ◌∙◌, subst, arith}
+use Rattle.std.proofs.Common.{◌≡◌, ℕ, ◌+◌, ◌-◌, ◌<◌, [], ◌++◌, length, get_or, take, drop, Some, None, sym, ap, ◌∙◌, arith}
 use Rattle.std.proofs.lemmas.List.{length-map, take_at, drop_at, drop_all}
 use Rattle.std.proofs.lemmas.Bool.{cond-true, cond-false}
 use Rattle.search.specs.Classes.{joined_on, gathered_from, gathered, class_count}
-use Rattle.search.specs.Nodes.{own, keys, Ordered}
+use Rattle.search.specs.Nodes.{own, keys}
 use Rattle.search.specs.declared.classes.Classes.{Classes}
 use Rattle.search.proofs.Classing.{gathered_classed}
 use Rattle.search.proofs.Gathering.{one_of, none_told, counted_some, counted_none, keys_own, keys_joined, gathered_on}
@@ -12,16 +12,6 @@ use Rattle.search.proofs.search.search.Goals as goal
 
 abbrev classes : ℕ → ℕ → Classes
 classes n k = record { nodes = n; classes = k }
-
-pub join-requires : goal.join-requires
-join-requires g c =
-    let nodes = g.J.Joining.nodes c.args.graph.now in
-    let l = c.loop-at.invariant in
-    let n = counted_some c.in_ok-n.n (length c.args.rows.now) (length nodes) c.in_ok-n.ensures.value in
-    record {
-      within = omega (arith, n.1, c.loop-at-test.true, ap length l.0, length-map c.loop-at.labels (λ r. r.key));
-      sorted = subst (Ordered g.J.Node.Ord.cmp) (sym l.0) c.count.ensures.sorted;
-    }
 
 pub loop-at-init : goal.loop-at-init
 loop-at-init g c =
