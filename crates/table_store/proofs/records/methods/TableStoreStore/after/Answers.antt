@@ -1,12 +1,10 @@
--- The next key of the table is the next simplex of the model, and from the empty simplex the first.
+-- The next key of the table is the next simplex of the model.
 use Rattle.std.proofs.Common.{sym, ap, ◌∙◌}
 use Rattle.order.specs.Assoc.{first, later, next}
 use Rattle.complex.specs.Simplex.{colex}
 use Rattle.simplex.specs.Simplexes.{by_vertices, found, vertices_or_none}
-use Rattle.store.proofs.Walks.{all_later}
 use Rattle.table.specs.Held.{held}
 use Rattle.table_store.specs.Entries.{entries}
-use Rattle.table_store.specs.Limits.{vertex_range}
 use Rattle.table_store.proofs.Entries.{first_entries, later_entries}
 use Rattle.table_store.proofs.records.methods.TableStoreStore.after.Goals as goal
 
@@ -19,12 +17,3 @@ returns-in-Some c =
     ∙ first_entries (later by_vertices s rows)
     ∙ ap first (later_entries s rows)
     ∙ ap (λ o. next colex (vertices_or_none o) (entries rows)) (sym c.in-Some.is)
-
-pub returns-in-None : goal.returns-in-None
-returns-in-None c =
-    let store = c.args.self.now in
-    let rows = held store.table in
-    ap found c.first.ensures
-    ∙ first_entries rows
-    ∙ ap first (sym (all_later vertex_range (entries rows) store.fit))
-    ∙ ap (λ o. next colex (vertices_or_none o) (entries rows)) (sym c.in-None.is)
