@@ -253,7 +253,7 @@ lacking_all v [] f = refl
 lacking_all v (r ∷ rs) f = ap (λ b. cond b (lacking v rs) (r ∷ lacking v rs)) (f r (inl refl)) ∙ ap (λ L. r ∷ L) (lacking_all v rs (λ x l. f x (inr l)))
 
 -- a base stands for a record
-member_listed : (u : ℕ) (q : List ℕ) (L : Model) → Member q (bases u L) → (r : Record (List ℕ) ℕ) × Listed r L × (has u r.key ≡ true) × (q ≡ less u r.key)
+pub member_listed : (u : ℕ) (q : List ℕ) (L : Model) → Member q (bases u L) → (r : Record (List ℕ) ℕ) × Listed r L × (has u r.key ≡ true) × (q ≡ less u r.key)
 member_listed u q [] m = absurd m
 member_listed u q (x ∷ xs) m = go (member_listed u q xs) (has u x.key) refl m
   where

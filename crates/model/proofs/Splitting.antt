@@ -30,6 +30,7 @@ use Rattle.model.specs.Splits.{newest_pairs, one_held, Takes, SplitsAt, Undoes}
 use Rattle.model.proofs.Changes.{put_accepted}
 use Rattle.history.proofs.Fitted.{fits_shaped, fits_ranged}
 use Rattle.model.proofs.Passing.{later_put, passing_rising, passing_later, passing_put}
+use Rattle.model.proofs.Noting.{member_listed}
 
 -- how many of the records have a mask
 abbrev count : Model → ℕ
@@ -348,18 +349,6 @@ none_ahead u v M K ps q i way h =
     sym (ap (λ L. split_each u v K (bases u L) (former u v M (bases u L))) (walk_ends (sided u v K) q h)) ∙ way.leads
 
 -- the bases of a model stand once each
-member_listed : (u : ℕ) (s : List ℕ) (rows : Model) → Member s (bases u rows) → (r : Record (List ℕ) ℕ) × Listed r rows × (has u r.key ≡ true) × (s ≡ less u r.key)
-member_listed u s [] m = absurd m
-member_listed u s (x ∷ xs) m = go (member_listed u s xs) (has u x.key) refl m
-  where
-    Source : Model → Type 0
-    Source rows = (r : Record (List ℕ) ℕ) × Listed r rows × (has u r.key ≡ true) × (s ≡ less u r.key)
-
-    go : (Member s (bases u xs) → Source xs) → (b : Bool) → has u x.key ≡ b → Member s (cond b (less u x.key ∷ bases u xs) (bases u xs)) → Source (x ∷ xs)
-    go more true e (inl h) = (x, inl refl, e, h)
-    go more true e (inr m) = let p = more m in (p.0, inr p.1, p.2, p.3)
-    go more false e m = let p = more m in (p.0, inr p.1, p.2, p.3)
-
 bases_open : (u v : ℕ) (M K : Model) (rows : Model) → Sorted rows → ((r : Record (List ℕ) ℕ) → Listed r rows → Rising r.key) →
     ((r : Record (List ℕ) ℕ) → Listed r rows → has u r.key ≡ true → Open u v M K (less u r.key)) → Opens u v M K (bases u rows)
 bases_open u v M K [] sorted rising opened = tt
