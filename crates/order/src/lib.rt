@@ -1,4 +1,5 @@
-// Records of a key and its value, for every kind of key that has an order.
+// Keys that have an order, and records of a key and its value.
 #![tactic(auto)]
 
+pub mod keys;
 pub mod record;
