@@ -3,11 +3,12 @@ ghost use Rattle.std.specs.Prelude.{◌≡◌, Bool, List, length};
 ghost use Rattle.order.specs.Assoc.{first};
 ghost use Rattle.search.specs.Nodes.{Member, own, Ordered, left, Amid, Leads, Between, NextJoined};
 
+use order::keys::Order;
 use order::record::Record;
 
 // Nodes of a kind that has an order, some of them joined.
 pub trait Joining {
-    type Node: Ord + Copy;
+    type Node: Order + Copy;
 
     // the nodes, in their order
     ghost nodes: { Self → List Self.Node };
@@ -19,8 +20,8 @@ pub trait Joining {
 
     // The first node, or the next one after a node.
     fn next(&self, at: Option<Self::Node>) -> Option<Self::Node>
-        ensures sorted { Ordered Self.Node.Ord.cmp (nodes self.now) }
-        ensures next { Amid (nodes self.now) at → result ≡ first (left Self.Node.Ord.cmp at (own (nodes self.now))) };
+        ensures sorted { Ordered Self.Node.Order.ranks (nodes self.now) }
+        ensures next { Amid (nodes self.now) at → result ≡ first (left Self.Node.Order.ranks at (own (nodes self.now))) };
 
     // The place, from a place on, of the first of these earlier nodes that a node is joined with.
     fn next_joined(
@@ -30,5 +31,5 @@ pub trait Joining {
         from: usize,
     ) -> Option<usize>
         ensures within { Between from (length earlier.now) result }
-        ensures joined { Leads Self.Node.Ord.cmp earlier.now node → NextJoined (joins self.now node) earlier.now from result };
+        ensures joined { Leads Self.Node.Order.ranks earlier.now node → NextJoined (joins self.now node) earlier.now from result };
 }

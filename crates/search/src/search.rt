@@ -7,6 +7,7 @@ ghost use Rattle.search.specs.Classes.{counted, joined_on, Searches};
 use crate::classes::Classes;
 use crate::joining::Joining;
 use crate::labels::{count_own, unite};
+use order::keys::Order;
 use order::record::Record;
 use table::front::front;
 use table::rows::Table;
@@ -17,7 +18,7 @@ pub struct TooFewRecords;
 
 // How many nodes there are, if there are no more than `room`.
 fn count<J: Joining>(graph: &J, room: usize) -> Result<usize, TooFewRecords>
-    ensures sorted { Ordered J.Node.Ord.cmp (J.Joining.nodes graph.now) }
+    ensures sorted { Ordered J.Node.Order.ranks (J.Joining.nodes graph.now) }
     ensures value { result_ok result ≡ counted room (length (J.Joining.nodes graph.now)) }
 {
     let mut n = 0;
@@ -51,8 +52,8 @@ fn list<J: Joining>(graph: &J, rows: &mut [Record<J::Node, J::Node>])
 // Makes the class of the node at a place one with those of the earlier nodes that it is joined with.
 fn join<J: Joining>(graph: &J, rows: &mut [Record<J::Node, J::Node>], at: usize)
     requires within { at < length rows.old }
-    requires sorted { Ordered J.Node.Ord.cmp (keys rows.old) }
-    ensures { (d : _) → rows.new ≡ joined_on J.Node.Ord.cmp (J.Joining.joins graph.now) (take at (keys rows.old)) rows.old (slice_index_or rows.old at d).key }
+    requires sorted { Ordered J.Node.Order.ranks (keys rows.old) }
+    ensures { (d : _) → rows.new ≡ joined_on J.Node.Order.ranks (J.Joining.joins graph.now) (take at (keys rows.old)) rows.old (slice_index_or rows.old at d).key }
 {
     let node = rows[at].key;
     let mut from = 0;
@@ -69,7 +70,7 @@ pub fn search<J: Joining>(
     graph: &J,
     rows: &mut [Record<J::Node, J::Node>],
 ) -> Result<Classes, TooFewRecords>
-    ensures { Searches J.Node.Ord.cmp (J.Joining.joins graph.now) (J.Joining.nodes graph.now) rows.old rows.new (result_ok result) }
+    ensures { Searches J.Node.Order.ranks (J.Joining.joins graph.now) (J.Joining.nodes graph.now) rows.old rows.new (result_ok result) }
 {
     let n = count(graph, rows.len())?;
     list(graph, rows);

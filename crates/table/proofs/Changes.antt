@@ -11,14 +11,14 @@ use Rattle.table.proofs.Places.{put_found, put_missing}
 
 module _ {K V : Type 0} (c : K → K → Ordering) (k : K) where
   module _ (rows : List (Record K V)) where
-    set_is_put : (n : ℕ) (v : V) → n < length rows → n ≡ below c k rows → is_some (lookup c k rows) ≡ true → set rows n (record { key = k; value = v }) ≡ put c k (Some v) rows
+    pub set_is_put : (n : ℕ) (v : V) → n < length rows → n ≡ below c k rows → is_some (lookup c k rows) ≡ true → set rows n (record { key = k; value = v }) ≡ put c k (Some v) rows
     set_is_put n v h e f =
         ap (λ i. set rows i (record { key = k; value = v })) e ∙ set_split rows (below c k rows) (record { key = k; value = v }) (omega arith) ∙ sym (put_found c k (Some v) rows f)
 
-    inserted_is_put : (n : ℕ) (v : V) → n ≡ below c k rows → is_some (lookup c k rows) ≡ false → insert rows n (record { key = k; value = v }) ≡ put c k (Some v) rows
+    pub inserted_is_put : (n : ℕ) (v : V) → n ≡ below c k rows → is_some (lookup c k rows) ≡ false → insert rows n (record { key = k; value = v }) ≡ put c k (Some v) rows
     inserted_is_put n v e f = ap (λ i. insert rows i (record { key = k; value = v })) e ∙ sym (put_missing c k (Some v) rows f)
 
-    removed_is_put : (n : ℕ) → n ≡ below c k rows → is_some (lookup c k rows) ≡ true → remove rows n ≡ put c k None rows
+    pub removed_is_put : (n : ℕ) → n ≡ below c k rows → is_some (lookup c k rows) ≡ true → remove rows n ≡ put c k None rows
     removed_is_put n e f = ap (remove rows) e ∙ sym (put_found c k None rows f)
 
     pub unchanged_is_put : is_some (lookup c k rows) ≡ false → rows ≡ put c k None rows

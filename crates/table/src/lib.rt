@@ -5,3 +5,4 @@ pub mod front;
 pub mod rows;
 mod search;
 mod shift;
+pub mod sorted;

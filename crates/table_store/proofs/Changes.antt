@@ -1,9 +1,6 @@
 -- A change at one key of its table leaves a table store a table store.
 use Rattle.std.proofs.Common.{◌≡◌, ℕ, ◌+◌, ◌<◌, ◌≤◌, true, cond, ◌||◌, ltb, [], length, is_ok, is_some, Some, None, Option, unwrap_or, sym, refl, ap, ◌∙◌, arith, Result}
 use Rattle.std.proofs.lemmas.Bool.{lt-ltb}
-use Rattle.simplex.specs.contracts.simplex.ranking.SimplexOrd.TheImpl as ord
-use Rattle.simplex.specs.contracts.simplex.SimplexPartialEq.TheImpl as eq
-use Rattle.simplex.specs.contracts.simplex.ranking.SimplexPartialOrd.TheImpl as partial
 use Rattle.order.specs.Assoc.{lookup, bind, put, weigh}
 use Rattle.order.proofs.Maps.{length_is_total, total_put}
 use Rattle.complex.specs.Model.{mask, present, write}
@@ -22,22 +19,18 @@ use Rattle.table_store.specs.Stores.{contents, contents_length, contents_stored}
 use Rattle.table_store.proofs.Entries.{lookup_entries, put_entries}
 use Rattle.table_store.proofs.Fits.{put_keeps_fits}
 
--- a table of simplexes and masks
-abbrev SimplexTable : Type 0
-SimplexTable = Table Simplex ℕ ord.ghosts eq.ghosts partial.ghosts
-
 -- the facts of a table store, of another table under the same limit
-pub record Kept (t : TableStore) (new : SimplexTable) : Type 0 where
+pub record Kept (t : TableStore) (new : Table Simplex ℕ) : Type 0 where
   pub used : new.len ≤ t.limit
   pub lent : t.limit ≤ room new
   pub few : t.limit ≤ most_records
   pub fit : fits vertex_range (entries (held new)) ≡ true
 
 -- new is the store's table with the value o at k
-pub record Changed (t : TableStore) (k : Simplex) (o : Option ℕ) (new : SimplexTable) : Type 0 where
-  pub holds : held new ≡ put by_vertices k o (held t.table)
+pub record Changed (t : TableStore) (k : Simplex) (o : Option ℕ) (new : Table Simplex ℕ) : Type 0 where
+  pub holds : held new ≡ put by_vertices k o (held t.table.table)
   pub long : new.len ≡ length (held new)
-  pub lent : room new ≡ room t.table
+  pub lent : room new ≡ room t.table.table
 
 -- 1 where a mask is found
 abbrev there : Option ℕ → ℕ
@@ -48,21 +41,21 @@ there_weighs : {K : Type 0} (k : K) (o : Option ℕ) → weigh (λ _ _. 1) k o �
 there_weighs k None = refl
 there_weighs k (Some m) = refl
 
-module _ (t : TableStore) (k : Simplex) (new : SimplexTable) where
+module _ (t : TableStore) (k : Simplex) (new : Table Simplex ℕ) where
   abbrev found : Option ℕ
   found = lookup colex (vertices k) (contents t).model
 
   changed_model : (o : Option ℕ) → Changed t k o new → entries (held new) ≡ put colex (vertices k) o (contents t).model
-  changed_model o h = ap entries h.holds ∙ put_entries k o (held t.table)
+  changed_model o h = ap entries h.holds ∙ put_entries k o (held t.table.table)
 
-  changed_length : (o : Option ℕ) → Changed t k o new → new.len + there found ≡ t.table.len + there o
+  changed_length : (o : Option ℕ) → Changed t k o new → new.len + there found ≡ t.table.table.len + there o
   changed_length o h =
       let M = (contents t).model in
       let sums = total_put colex colex_lawful colex_exact (λ _ _. 1) M (vertices k) o (contents_stored t).sorted in
       let after = h.long ∙ sym (length_entries (held new)) ∙ ap length (changed_model o h) in
       omega (arith, sums, after, contents_length t, length_is_total M, length_is_total (put colex (vertices k) o M), there_weighs (vertices k) found, there_weighs (vertices k) o)
 
-  changed_kept : (o : Option ℕ) → Changed t k o new → fits vertex_range (bind (vertices k) o []) ≡ true → t.table.len + there o ≤ t.limit + there found → Kept t new
+  changed_kept : (o : Option ℕ) → Changed t k o new → fits vertex_range (bind (vertices k) o []) ≡ true → t.table.table.len + there o ≤ t.limit + there found → Kept t new
   changed_kept o h fit roomy =
       let same = ap (fits vertex_range) (changed_model o h) in
       record {
@@ -80,33 +73,33 @@ module _ (t : TableStore) (k : Simplex) (new : SimplexTable) where
   pub removed_kept : Changed t k None new → Kept t new
   removed_kept h = changed_kept None h refl (omega (arith, t.used))
 
-  module _ (free : mask (contents t).model (vertices k) ≡ 0 → t.table.len < t.limit) where
-    roomy : t.table.len + 1 ≤ t.limit + there found
+  module _ (free : mask (contents t).model (vertices k) ≡ 0 → t.table.table.len < t.limit) where
+    roomy : t.table.table.len + 1 ≤ t.limit + there found
     roomy = go found free
       where
-        go : (o : Option ℕ) → (unwrap_or o 0 ≡ 0 → t.table.len < t.limit) → t.table.len + 1 ≤ t.limit + there o
+        go : (o : Option ℕ) → (unwrap_or o 0 ≡ 0 → t.table.table.len < t.limit) → t.table.table.len + 1 ≤ t.limit + there o
         go None f = omega (arith, f refl)
         go (Some m) f = omega (arith, t.used)
 
     -- the table takes a key that it holds, or for which it has room
-    pub taken : (is_some (lookup by_vertices k (held t.table)) || ltb t.table.len (room t.table)) ≡ true
-    taken = ap (λ o. is_some o || ltb t.table.len (room t.table)) (sym (lookup_entries k (held t.table))) ∙ go found free
+    pub taken : (is_some (lookup by_vertices k (held t.table.table)) || ltb t.table.table.len (room t.table.table)) ≡ true
+    taken = ap (λ o. is_some o || ltb t.table.table.len (room t.table.table)) (sym (lookup_entries k (held t.table.table))) ∙ go found free
       where
-        go : (o : Option ℕ) → (unwrap_or o 0 ≡ 0 → t.table.len < t.limit) → (is_some o || ltb t.table.len (room t.table)) ≡ true
-        go None f = lt-ltb t.table.len (room t.table) (omega (arith, f refl, t.lent))
+        go : (o : Option ℕ) → (unwrap_or o 0 ≡ 0 → t.table.table.len < t.limit) → (is_some o || ltb t.table.table.len (room t.table.table)) ≡ true
+        go None f = lt-ltb t.table.table.len (room t.table.table) (omega (arith, f refl, t.lent))
         go (Some m) f = refl
 
     -- so putting it succeeds
-    pub put_succeeds : (m : ℕ) (r : Result (Unit {0}) TableFull) → Stored by_vertices k m t.table new r → is_ok r ≡ true
+    pub put_succeeds : (m : ℕ) (r : Result (Unit {0}) TableFull) → Stored by_vertices k m t.table.table new r → is_ok r ≡ true
     put_succeeds m r h = h.fits ∙ taken
 
     pub put_kept : (m : ℕ) → Changed t k (Some m) new → fits vertex_range (bind (vertices k) (Some m) []) ≡ true → Kept t new
     put_kept m h fit = changed_kept (Some m) h fit roomy
 
-    pub put_changed : (m : ℕ) (r : Result (Unit {0}) TableFull) → Stored by_vertices k m t.table new r → room new ≡ room t.table → Changed t k (Some m) new
+    pub put_changed : (m : ℕ) (r : Result (Unit {0}) TableFull) → Stored by_vertices k m t.table.table new r → room new ≡ room t.table.table → Changed t k (Some m) new
     put_changed m r h lent =
-        let holds = ap (λ b. cond b (put by_vertices k (Some m) (held t.table)) (held t.table)) (h.fits ∙ taken) in
+        let holds = ap (λ b. cond b (put by_vertices k (Some m) (held t.table.table)) (held t.table.table)) (h.fits ∙ taken) in
         record { holds = h.holds ∙ holds; long = h.long; lent = lent }
 
-  pub removed_changed : Removed by_vertices k t.table new → room new ≡ room t.table → Changed t k None new
+  pub removed_changed : Removed by_vertices k t.table.table new → room new ≡ room t.table.table → Changed t k None new
   removed_changed h lent = record { holds = h.holds; long = h.long; lent = lent }

@@ -8,15 +8,15 @@ ghost use Rattle.table_store.specs.Entries.{entries};
 ghost use Rattle.table_store.specs.Limits.{most_records, vertex_range};
 
 use simplex::simplex::Simplex;
-use table::rows::Table;
+use table::sorted::SortedTable;
 
 // A table of simplexes and their masks, of whose records only the first `limit` are ever used.
 #[derive(Drop)]
 pub struct TableStore<'a> {
-    table: Table<'a, Simplex, u8>,
+    table: SortedTable<'a, Simplex, u8>,
     limit: usize,
-    ghost used: { table.len ≤ limit },
-    ghost lent: { limit ≤ room table },
+    ghost used: { table.table.len ≤ limit },
+    ghost lent: { limit ≤ room table.table },
     ghost few: { limit ≤ most_records },
-    ghost fit: { fits vertex_range (entries (held table)) ≡ true },
+    ghost fit: { fits vertex_range (entries (held table.table)) ≡ true },
 }

@@ -10,7 +10,7 @@ use order::record::Record;
 use simplex::simplex::Simplex;
 use store::meaning::Store;
 use store::refusal::StoreRefusal;
-use table::rows::Table;
+use table::sorted::SortedTable;
 
 // Vertices are below this.
 const RANGE: u16 = 4096;
@@ -22,12 +22,12 @@ impl<'a> TableStore<'a> {
     // An empty store; nothing is written.
     pub fn open(records: &'a mut [Record<Simplex, u8>]) -> TableStore<'a>
         ensures contents { contents result ≡ record { model = []; limit = limit_over (length records.old); range = vertex_range } }
-        ensures records { result.table.records.now ≡ records.old }
-        ensures lender { result.table.records.ghost_name ≡ records.entry.ghost_name }
+        ensures records { result.table.table.records.now ≡ records.old }
+        ensures lender { result.table.table.records.ghost_name ≡ records.entry.ghost_name }
     {
         let limit = records.len().min(MOST_RECORDS);
         TableStore {
-            table: Table::open(records),
+            table: SortedTable::open(records),
             limit,
         }
     }
@@ -64,9 +64,9 @@ impl<'a> Store for TableStore<'a> {
     fn put(&mut self, s: Simplex, mask: u8) -> Result<(), StoreRefusal>
         ensures value { result ≡ put_answer (contents self.old) (vertices s) mask }
         ensures after { contents self.new ≡ put_next (contents self.old) (vertices s) mask }
-        ensures lender { self.new.table.records.ghost_name ≡ self.old.table.records.ghost_name }
-        ensures refused { is_err result ≡ true → self.new.table.records.now ≡ self.old.table.records.now }
-        ensures surplus { drop self.old.limit self.new.table.records.now ≡ drop self.old.limit self.old.table.records.now }
+        ensures lender { self.new.table.table.records.ghost_name ≡ self.old.table.table.records.ghost_name }
+        ensures refused { is_err result ≡ true → self.new.table.table.records.now ≡ self.old.table.table.records.now }
+        ensures surplus { drop self.old.limit self.new.table.table.records.now ≡ drop self.old.limit self.old.table.table.records.now }
     {
         // The grid store asks the same in the same order; one function over every store would call back into this block, and
         // such a cycle gets no proof.

@@ -4,4 +4,4 @@ use Rattle.search.specs.Classes.{renamed}
 use Rattle.search.proofs.labels.rename.Given as goal
 
 abbrev pub invariant-loop-row : goal.invariant-loop-row
-invariant-loop-row g l = l.rows ≡ renamed g.N.Ord.cmp l.a l.b (take l.row-index l.initial.rows) ++ drop l.row-index l.initial.rows
+invariant-loop-row g l = l.rows ≡ renamed g.N.Order.ranks l.a l.b (take l.row-index l.initial.rows) ++ drop l.row-index l.initial.rows

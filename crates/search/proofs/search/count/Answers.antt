@@ -5,12 +5,12 @@ use Rattle.search.proofs.search.count.Goals as goal
 
 pub loop-node-smaller : goal.loop-node-smaller
 loop-node-smaller g c =
-    let m = g.met.J.Node.Ord in
-    let step = node_step g.J.Node.Ord.cmp m.total (g.J.Joining.nodes c.args.graph.now) c.loop-node.at c.in-Some.node c.next.ensures.sorted (c.in-Some.ensures.next c.loop-node.invariant.1) in
+    let m = g.met.J.Node.Order in
+    let step = node_step g.J.Node.Order.ranks (record { antisymm = m.flip; trans = m.chain; congr = m.alike }) (g.J.Joining.nodes c.args.graph.now) c.loop-node.at c.in-Some.node c.next.ensures.sorted (c.in-Some.ensures.next c.loop-node.invariant.1) in
     omega (arith, ap length step.first)
 
 pub loop-node-preserved : goal.loop-node-preserved
 loop-node-preserved g c =
-    let m = g.met.J.Node.Ord in
-    let step = node_step g.J.Node.Ord.cmp m.total (g.J.Joining.nodes c.args.graph.now) c.loop-node.at c.in-Some.node c.next.ensures.sorted (c.in-Some.ensures.next c.loop-node.invariant.1) in
+    let m = g.met.J.Node.Order in
+    let step = node_step g.J.Node.Order.ranks (record { antisymm = m.flip; trans = m.chain; congr = m.alike }) (g.J.Joining.nodes c.args.graph.now) c.loop-node.at c.in-Some.node c.next.ensures.sorted (c.in-Some.ensures.next c.loop-node.invariant.1) in
     (omega (arith, ap length step.first, c.loop-node.invariant.0), step.node, omega arith)

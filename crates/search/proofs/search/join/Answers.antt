@@ -9,9 +9,9 @@ use Rattle.search.proofs.search.join.Goals as goal
 
 pub loop-place-preserved : goal.loop-place-preserved
 loop-place-preserved g c =
-    let m = g.met.J.Node.Ord in
-    let rank = g.J.Node.Ord.cmp in
-    let ok : IsTotalOrder rank = m.total in
+    let m = g.met.J.Node.Order in
+    let rank = g.J.Node.Order.ranks in
+    let ok : IsTotalOrder rank = record { antisymm = m.flip; trans = m.chain; congr = m.alike } in
     let old = c.args.rows.now in
     let rows = c.loop-place.rows in
     let at = c.args.at in
@@ -26,9 +26,9 @@ loop-place-preserved g c =
 
 pub returns : goal.returns
 returns g c e =
-    let m = g.met.J.Node.Ord in
-    let rank = g.J.Node.Ord.cmp in
-    let ok : IsTotalOrder rank = m.total in
+    let m = g.met.J.Node.Order in
+    let rank = g.J.Node.Order.ranks in
+    let ok : IsTotalOrder rank = record { antisymm = m.flip; trans = m.chain; congr = m.alike } in
     let old = c.args.rows.now in
     let rows = c.loop-place.rows in
     let at = c.args.at in

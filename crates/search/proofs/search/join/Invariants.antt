@@ -7,7 +7,7 @@ use Rattle.search.proofs.search.join.Given as goal
 abbrev pub invariant-loop-place : goal.invariant-loop-place
 invariant-loop-place g l =
     (keys l.rows ≡ keys l.initial.rows)
-    × (fold (united g.J.Node.Ord.cmp l.node) l.rows (filter (g.J.Joining.joins l.graph l.node) (drop l.from (take l.at (keys l.initial.rows)))) ≡ joined_on g.J.Node.Ord.cmp (g.J.Joining.joins l.graph) (take l.at (keys l.initial.rows)) l.initial.rows l.node)
+    × (fold (united g.J.Node.Order.ranks l.node) l.rows (filter (g.J.Joining.joins l.graph l.node) (drop l.from (take l.at (keys l.initial.rows)))) ≡ joined_on g.J.Node.Order.ranks (g.J.Joining.joins l.graph) (take l.at (keys l.initial.rows)) l.initial.rows l.node)
 
 abbrev pub decreases-loop-place : goal.decreases-loop-place
 decreases-loop-place g l = l.at - l.from

@@ -18,11 +18,11 @@ loop-at-init g c =
     let nodes = g.J.Joining.nodes c.args.graph.now in
     let n = counted_some c.in_ok-n.n (length c.args.rows.now) (length nodes) c.in_ok-n.ensures.value in
     let front : take (c.in_ok-n.n - 0) c.list.new.rows ≡ own nodes = ap (take (c.in_ok-n.n - 0)) c.list.ensures ∙ take_at (own nodes) (drop (length nodes) c.args.rows.now) (c.in_ok-n.n - 0) (omega (arith, length-map nodes itself, n.1)) in
-    (ap keys front ∙ keys_own nodes, ap (λ rows. gathered_from g.J.Node.Ord.cmp (g.J.Joining.joins c.args.graph.now) [] rows nodes) front)
+    (ap keys front ∙ keys_own nodes, ap (λ rows. gathered_from g.J.Node.Order.ranks (g.J.Joining.joins c.args.graph.now) [] rows nodes) front)
 
 pub loop-at-preserved : goal.loop-at-preserved
 loop-at-preserved g c =
-    let rank = g.J.Node.Ord.cmp in
+    let rank = g.J.Node.Order.ranks in
     let J = g.J.Joining.joins c.args.graph.now in
     let nodes = g.J.Joining.nodes c.args.graph.now in
     let at = c.loop-at.at in
@@ -36,8 +36,8 @@ loop-at-preserved g c =
 
 pub returns : goal.returns
 returns g c =
-    let m = g.met.J.Node.Ord in
-    let rank = g.J.Node.Ord.cmp in
+    let m = g.met.J.Node.Order in
+    let rank = g.J.Node.Order.ranks in
     let J = g.J.Joining.joins c.args.graph.now in
     let nodes = g.J.Joining.nodes c.args.graph.now in
     let at = c.loop-at.at in
@@ -50,13 +50,13 @@ returns g c =
     record {
       value = ap (λ m. Some (classes m c.count_own.result)) n.1 ∙ ap (λ k. Some (classes (length nodes) k)) (c.count_own.ensures ∙ ap (class_count rank) all) ∙ sym (cond-true _ (Some (classes (length nodes) (class_count rank (gathered rank J nodes)))) None n.0);
       after = ap (λ front. front ++ drop (c.in_ok-n.n - 0) c.list.new.rows) all ∙ ap (λ rest. gathered rank J nodes ++ rest) rest ∙ sym (cond-true _ (gathered rank J nodes ++ drop (length nodes) rows) rows n.0);
-      classed = gathered_classed rank m.total nodes c.count.ensures.sorted J (g.J.Joining.both c.args.graph.now);
+      classed = gathered_classed rank (record { antisymm = m.flip; trans = m.chain; congr = m.alike }) nodes c.count.ensures.sorted J (g.J.Joining.both c.args.graph.now);
     }
 
 pub returns-in_err-n : goal.returns-in_err-n
 returns-in_err-n g c =
-    let m = g.met.J.Node.Ord in
-    let rank = g.J.Node.Ord.cmp in
+    let m = g.met.J.Node.Order in
+    let rank = g.J.Node.Order.ranks in
     let J = g.J.Joining.joins c.args.graph.now in
     let nodes = g.J.Joining.nodes c.args.graph.now in
     let rows = c.args.rows.now in
@@ -64,5 +64,5 @@ returns-in_err-n g c =
     record {
       value = none_told c.from_residual.result c.from_residual.ensures.0 ∙ sym (cond-false _ (Some (classes (length nodes) (class_count rank (gathered rank J nodes)))) None short);
       after = sym (cond-false _ (gathered rank J nodes ++ drop (length nodes) rows) rows short);
-      classed = gathered_classed rank m.total nodes c.count.ensures.sorted J (g.J.Joining.both c.args.graph.now);
+      classed = gathered_classed rank (record { antisymm = m.flip; trans = m.chain; congr = m.alike }) nodes c.count.ensures.sorted J (g.J.Joining.both c.args.graph.now);
     }

@@ -6,7 +6,7 @@ use Rattle.table.proofs.search.past.Goals as goal
 
 pub returns-in-Ok : goal.returns-in-Ok
 returns-in-Ok g c up =
-    let rank = g.K.Ord.cmp in
+    let rank = g.K.Order.ranks in
     let k = c.args.key.now in
     let rows = c.args.rows.now in
     let sought = c.in-Ok.ensures.1 up in
@@ -17,4 +17,4 @@ pub returns-in-Err : goal.returns-in-Err
 returns-in-Err g c up =
     let rows = c.args.rows.now in
     let sought = c.in-Err.ensures.1 up in
-    later_missing g.K.Ord.cmp c.args.key.now rows sought.1 ∙ ap (λ n. drop n rows) (sym sought.0)
+    later_missing g.K.Order.ranks c.args.key.now rows sought.1 ∙ ap (λ n. drop n rows) (sym sought.0)

@@ -6,7 +6,9 @@ use Rattle.table.proofs.search.seek.Goals as goal
 
 pub returns : goal.returns
 returns g c =
+    let rank = g.K.Order.ranks in
+    let m = g.met.K.Order in
     let k = c.args.key.now in
     let found = c.binary_search_by in
-    sought g.K.Ord.cmp g.met.K.Ord.total k c.args.rows.now found.result found.ensures.bound
-    (found.ensures.position (λ r. g.K.Ord.cmp r.key k) (always_returns_same _ _ _ (λ a r f' called. search rules)))
+    sought rank (record { antisymm = m.flip; trans = m.chain; congr = m.alike }) k c.args.rows.now found.result found.ensures.bound
+    (found.ensures.position (λ r. rank r.key k) (always_returns_same _ _ _ (λ a r f' called. search rules)))

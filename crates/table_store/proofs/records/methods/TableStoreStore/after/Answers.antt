@@ -11,7 +11,7 @@ use Rattle.table_store.proofs.records.methods.TableStoreStore.after.Goals as goa
 pub returns-in-Some : goal.returns-in-Some
 returns-in-Some c =
     let store = c.args.self.now in
-    let rows = held store.table in
+    let rows = held store.table.table in
     let s = c.in-Some.s in
     ap found c.after.ensures
     ∙ first_entries (later by_vertices s rows)

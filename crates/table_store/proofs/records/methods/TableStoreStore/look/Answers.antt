@@ -7,4 +7,4 @@ use Rattle.table_store.proofs.records.methods.TableStoreStore.look.Goals as goal
 pub returns : goal.returns
 returns c =
     let store = c.args.self.now in
-    c.unwrap_or.ensures ∙ ap (λ o. unwrap_or o 0) (c.look.ensures ∙ sym (lookup_entries c.args.s.now (held store.table)))
+    c.unwrap_or.ensures ∙ ap (λ o. unwrap_or o 0) (c.look.ensures ∙ sym (lookup_entries c.args.s.now (held store.table.table)))
