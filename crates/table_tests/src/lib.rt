@@ -1,10 +1,37 @@
-// Runs of the ordered table on vertices.
+// Runs of the ordered table on vertices, and on jobs, whose order is coarser than their equality.
 #![tactic(auto)]
 
 #[cfg(test)]
 mod tests {
+    ghost use Rattle.std.specs.Ordering.{nat_cmp};
+    ghost use Rattle.std.proofs.lemmas.Cmp.{nat_cmp_total};
+
+    use order::keys::Order;
     use order::record::Record;
+    use std::cmp::Ordering;
     use table::rows::{Table, TableFull};
+    use table::sorted::SortedTable;
+
+    #[derive(Clone, Copy, Debug, PartialEq, Eq)]
+    struct Job {
+        number: u16,
+        note: u16,
+    }
+
+    // Jobs are the same where their numbers are, whatever is noted.
+    impl Order for Job {
+        ghost ranks = { λ x y. nat_cmp x.number y.number };
+
+        ghost flip = { λ x y. nat_cmp_total.antisymm x.number y.number };
+
+        ghost chain = { λ x y z. nat_cmp_total.trans x.number y.number z.number };
+
+        ghost alike = { λ x y z. nat_cmp_total.congr x.number y.number z.number };
+
+        fn compare(&self, other: &Job) -> Ordering {
+            self.number.cmp(&other.number)
+        }
+    }
 
     #[test]
     fn reads_back_in_order(rt: HostRuntime) {
@@ -36,7 +63,7 @@ mod tests {
         assert_eq!(rt; table.put(1, 10), Ok(()));
         assert_eq!(rt; table.put(2, 21), Ok(()));
         assert_eq!(rt; table.look(&2), Some(21));
-        assert_eq!(rt; table.len(), 2);
+        assert_eq!(rt; table.len, 2);
         table.remove(&1);
         table.remove(&4);
         assert_eq!(rt; table.look(&1), None);
@@ -58,5 +85,90 @@ mod tests {
         assert_eq!(rt; table.look(&4), Some(1));
         assert_eq!(rt; table.look(&5), None);
         assert_eq!(rt; table.look(&6), Some(7));
+    }
+
+    #[test]
+    fn goes_on_with_filled_records(rt: HostRuntime) {
+        let mut memory = [
+            Record {
+                key: 1u16,
+                value: 10u8,
+            },
+            Record { key: 2, value: 20 },
+            Record { key: 9, value: 0 },
+        ];
+        let mut table = Table {
+            records: &mut memory,
+            len: 2,
+        };
+        assert_eq!(rt; table.look(&2), Some(20));
+        assert_eq!(rt; table.put(3, 30), Ok(()));
+        assert_eq!(rt; table.records[2].key, 3);
+        assert_eq!(rt; table.len, 3);
+    }
+
+    #[test]
+    fn returns_where_nothing_is_in_order(rt: HostRuntime) {
+        let mut memory = [
+            Record {
+                key: 5u16,
+                value: 50u8,
+            },
+            Record { key: 1, value: 10 },
+            Record { key: 3, value: 30 },
+        ];
+        let mut table = Table {
+            records: &mut memory,
+            len: 7,
+        };
+        assert_eq!(rt; table.first(), Some(5));
+        assert_eq!(rt; table.put(9, 90), Err(TableFull));
+        assert_eq!(rt; table.put(3, 31), Ok(()));
+        table.remove(&9);
+        assert_eq!(rt; table.len, 7);
+        table.remove(&3);
+        assert_eq!(rt; table.len, 2);
+        assert_eq!(rt; table.records.len(), 3);
+        assert_eq!(rt; table.records[0].key, 5);
+        assert_eq!(rt; table.records[2].value, 31);
+    }
+
+    #[test]
+    fn orders_jobs_by_number(rt: HostRuntime) {
+        let first = Job { number: 1, note: 8 };
+        let second = Job { number: 2, note: 0 };
+        let again = Job { number: 2, note: 5 };
+        let mut memory = [Record {
+            key: first,
+            value: 0u8,
+        }; 3];
+        let mut table = Table::open(&mut memory);
+        assert_eq!(rt; table.put(second, 20), Ok(()));
+        assert_eq!(rt; table.put(first, 10), Ok(()));
+        assert_eq!(rt; table.put(again, 21), Ok(()));
+        assert_eq!(rt; table.len, 2);
+        assert_eq!(rt; table.look(&second), Some(21));
+        assert_eq!(rt; table.first(), Some(first));
+        assert_eq!(rt; table.after(&first), Some(again));
+        table.remove(&second);
+        assert_eq!(rt; table.look(&again), None);
+        assert_eq!(rt; table.after(&first), None);
+    }
+
+    #[test]
+    fn stays_sorted(rt: HostRuntime) {
+        let mut memory = [Record {
+            key: 0u16,
+            value: 0u8,
+        }; 2];
+        let mut table = SortedTable::open(&mut memory);
+        assert_eq!(rt; table.put(7, 1), Ok(()));
+        assert_eq!(rt; table.put(3, 2), Ok(()));
+        assert_eq!(rt; table.put(5, 4), Err(TableFull));
+        assert_eq!(rt; table.look(&7), Some(1));
+        assert_eq!(rt; table.first(), Some(3));
+        assert_eq!(rt; table.after(&3), Some(7));
+        table.remove(&3);
+        assert_eq!(rt; table.len(), 1);
     }
 }
