@@ -2,36 +2,14 @@
 #![tactic(auto)]
 
 #[cfg(test)]
-mod tests {
-    ghost use Rattle.std.specs.Ordering.{nat_cmp};
-    ghost use Rattle.std.proofs.lemmas.Cmp.{nat_cmp_total};
+mod job;
 
-    use order::keys::Order;
+#[cfg(test)]
+mod tests {
+    use crate::job::Job;
     use order::record::Record;
-    use std::cmp::Ordering;
     use table::rows::{Table, TableFull};
     use table::sorted::SortedTable;
-
-    #[derive(Clone, Copy, Debug, PartialEq, Eq)]
-    struct Job {
-        number: u16,
-        note: u16,
-    }
-
-    // Jobs are the same where their numbers are, whatever is noted.
-    impl Order for Job {
-        ghost ranks = { λ x y. nat_cmp x.number y.number };
-
-        ghost flip = { λ x y. nat_cmp_total.antisymm x.number y.number };
-
-        ghost chain = { λ x y z. nat_cmp_total.trans x.number y.number z.number };
-
-        ghost alike = { λ x y z. nat_cmp_total.congr x.number y.number z.number };
-
-        fn compare(&self, other: &Job) -> Ordering {
-            self.number.cmp(&other.number)
-        }
-    }
 
     #[test]
     fn reads_back_in_order(rt: HostRuntime) {
