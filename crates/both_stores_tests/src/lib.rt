@@ -10,7 +10,7 @@ mod tests {
     use store::meaning::Store;
     use table_store::records::TableStore;
 
-    fn laid<S: Store>(draft: &mut Draft<'_, S>) -> [Result<usize, u8>; 10] {
+    fn laid<S: Store>(draft: &mut Draft<S>) -> [Result<usize, u8>; 10] {
         [
             draft.lay(&[0, 1, 2, 3]).map_err(u8::from),
             draft.lay(&[1, 2, 3, 31]).map_err(u8::from),
@@ -25,7 +25,7 @@ mod tests {
         ]
     }
 
-    fn marked<S: Store>(draft: &mut Draft<'_, S>) -> [Result<usize, u8>; 8] {
+    fn marked<S: Store>(draft: &mut Draft<S>) -> [Result<usize, u8>; 8] {
         [
             draft.mark(1, &[1, 2, 3]).map_err(u8::from),
             draft.mark(2, &[3, 30]).map_err(u8::from),

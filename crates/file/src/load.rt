@@ -15,8 +15,8 @@ use store::meaning::Store;
 
 // Loads a file into an empty draft, and answers how many simplexes are held. A load that stops empties the draft.
 pub fn load<S: Store>(draft: &mut Draft<S>, file: &[u8]) -> Result<usize, FileRefusal>
-    ensures value { result ≡ load_answer draft.old file.now }
-    ensures after { draft.new ≡ load_next draft.old file.now }
+    ensures value { result ≡ load_answer (S.Store.contents draft.old.store) file.now }
+    ensures after { S.Store.contents draft.new.store ≡ load_next (S.Store.contents draft.old.store) file.now }
 {
     if draft.held() != 0 {
         return Err(FileRefusal::Occupied);
@@ -30,8 +30,8 @@ pub fn load<S: Store>(draft: &mut Draft<S>, file: &[u8]) -> Result<usize, FileRe
 
 // Takes every entry of the file in order, up to the first that is refused or flawed.
 fn take_all<S: Store>(draft: &mut Draft<S>, file: &[u8]) -> Result<(), Stopped>
-    ensures taken { TakenAll (loaded draft.old (outcomes file.now)) result draft.new }
-    ensures same { emptied draft.new ≡ emptied draft.old }
+    ensures taken { TakenAll (loaded (S.Store.contents draft.old.store) (outcomes file.now)) result (S.Store.contents draft.new.store) }
+    ensures same { emptied (S.Store.contents draft.new.store) ≡ emptied (S.Store.contents draft.old.store) }
 {
     for next in Reader::new(file) {
         take(draft, next?)?;
@@ -41,8 +41,8 @@ fn take_all<S: Store>(draft: &mut Draft<S>, file: &[u8]) -> Result<(), Stopped>
 
 // Takes an entry, which is laid or marked.
 fn take<S: Store>(draft: &mut Draft<S>, placed: Placed) -> Result<(), Stopped>
-    ensures value { result ≡ unless_refused placed.entry.site (entry_answer draft.old (content placed.entry.entry)) (Ok tt) }
-    ensures after { draft.new ≡ entry_next draft.old (content placed.entry.entry) }
+    ensures value { result ≡ unless_refused placed.entry.site (entry_answer (S.Store.contents draft.old.store) (content placed.entry.entry)) (Ok tt) }
+    ensures after { S.Store.contents draft.new.store ≡ entry_next (S.Store.contents draft.old.store) (content placed.entry.entry) }
 {
     enter(draft, placed.entry).map_err(|refusal| Stopped {
         site: placed.site,
@@ -53,8 +53,8 @@ fn take<S: Store>(draft: &mut Draft<S>, placed: Placed) -> Result<(), Stopped>
 
 // Lays an entry of the first four sections, or marks one of a part.
 fn enter<S: Store>(draft: &mut Draft<S>, entry: Entry) -> Result<usize, ModelRefusal>
-    ensures value { result ≡ entry_answer draft.old (content entry.entry) }
-    ensures after { draft.new ≡ entry_next draft.old (content entry.entry) }
+    ensures value { result ≡ entry_answer (S.Store.contents draft.old.store) (content entry.entry) }
+    ensures after { S.Store.contents draft.new.store ≡ entry_next (S.Store.contents draft.old.store) (content entry.entry) }
 {
     let numbers = vertices(entry.bytes());
     match entry {

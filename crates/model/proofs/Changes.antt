@@ -58,6 +58,14 @@ marked_keeps_legal c p s r st legal = go (mark_simplex c p s) refl
     go (Ok n) e = mark_keeps_legal p c.model (mark p c.model s) s (λ q. told s q (rises_rising s r)) (marked_held c p s n e) legal (mark_changes p c.model s st.sorted (rises_rising s r))
     go (Err x) e = legal
 
+-- what a lay or a mark left of a legal model is legal
+module _ {S : Type 0} (contents : S → Contents) (x y : S) where
+  pub laid_is_legal : (s : List ℕ) → rises s ≡ true → Stored (contents x) → Legal (contents x).model → contents y ≡ laid_simplex (contents x) s → Legal (contents y).model
+  laid_is_legal s r st legal e = subst (λ (d : Contents). Legal d.model) (sym e) (laid_keeps_legal (contents x) s r st legal)
+
+  pub marked_is_legal : (p : ℕ) (s : List ℕ) → rises s ≡ true → Stored (contents x) → Legal (contents x).model → contents y ≡ marked_simplex (contents x) p s → Legal (contents y).model
+  marked_is_legal p s r st legal e = subst (λ (d : Contents). Legal d.model) (sym e) (marked_keeps_legal (contents x) p s r st legal)
+
 -- what a slice of vertices was read as
 pub checked_is : (s t : List ℕ) → Some s ≡ checked t → (proper t ≡ true) × (s ≡ t)
 checked_is s t h = go (proper t) refl h

@@ -3,7 +3,7 @@ use Rattle.std.proofs.Common.{◌≡◌, ℕ, ◌+◌, ◌^◌, ◌<◌, ◌≤�
 use lib.Bits.{bit_or, or_add_and, and_le_r}
 use Rattle.std.proofs.lemmas.Bool.{cond-true, cond-false, eq-eqb, ne_eqb, or_left, or_right}
 use Rattle.std.proofs.lemmas.List.Sums.{sum_by-cons}
-use Rattle.complex.specs.Model.{mask, write, Sorted, lay_one, lay, absent, mark_one, mark}
+use Rattle.complex.specs.Model.{Model, mask, write, Sorted, lay_one, lay, absent, mark_one, mark}
 use Rattle.complex.specs.Simplex.{among, below, rises, Face, faces}
 use Rattle.complex.proofs.Faces.{rises_rising, listed_is_face, face_below, same_as_itself}
 use Rattle.complex.proofs.Lays.{lay_one_room}
@@ -35,6 +35,12 @@ pub record Laying (s : List ℕ) (b c : Contents) (left : List (List ℕ)) : Typ
 pub laying_first : (s : List ℕ) (b : Contents) → rises s ≡ true → length b.model + absent b.model (faces s) ≤ b.limit → Laying s b b (faces s)
 laying_first s b r room = record { same = refl; leads = refl; room = room; listed = all_faces s r }
 
+-- a first face that is absent is counted as one
+some_absent : (M : Model) (f : List ℕ) (fs : List (List ℕ)) → mask M f ≡ 0 → 1 ≤ absent M (f ∷ fs)
+some_absent M f fs z =
+    let one : ◌≡◌ {A = ℕ} (cond (eqb (mask M f) 0) 1 0) 1 = cond-true _ 1 0 (eq-eqb (mask M f) 0 z) in
+    omega (arith, one, sum_by-cons (λ g. cond (eqb (mask M g) 0) 1 0) f fs)
+
 -- a face that is absent is put, for which there is room; one that is held stays
 module _ (s : List ℕ) (b c d : Contents) (f : List ℕ) (fs : List (List ℕ)) (on : Laying s b c (f ∷ fs)) (sorted : Sorted c.model) where
   goes_on : d ≡ holding c (lay_one c.model f) → Laying s b d fs
@@ -53,9 +59,7 @@ module _ (s : List ℕ) (b c d : Contents) (f : List ℕ) (fs : List (List ℕ))
       low = face_below c.range s f (ap (λ x. below x.range s) on.same ∙ ranged) (face_here s f fs on.listed)
 
       room : length c.model < c.limit
-      room =
-          let one : ◌≡◌ {A = ℕ} (cond (eqb (mask c.model f) 0) 1 0) 1 = cond-true _ 1 0 (eq-eqb (mask c.model f) 0 z) in
-          omega (arith, on.room, one, sum_by-cons (λ g. cond (eqb (mask c.model g) 0) 1 0) f fs)
+      room = omega (arith, on.room, some_absent c.model f fs z)
 
   pub face_there : 0 < mask c.model f → d ≡ c → Laying s b d fs
   face_there h e = goes_on (e ∙ ap (holding c) (sym (cond-false _ (write c.model f 1) c.model (ne_eqb (mask c.model f) 0 (omega arith)))))

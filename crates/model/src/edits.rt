@@ -1,9 +1,10 @@
-// The changes of a draft, in any store.
+// The changes of a draft, in any store. What they leave is said of the store itself.
 ghost use Rattle.std.specs.Prelude.{◌≡◌, cond, [], Ok, Err};
 ghost use Rattle.complex.specs.Model.{Legal};
 ghost use Rattle.complex.specs.Simplex.{below};
 ghost use Rattle.simplex.specs.Simplexes.{vertices};
 ghost use Rattle.store.specs.Contents.{holding};
+ghost use Rattle.model.specs.declared.refusal.ModelRefusal.{ModelRefusal};
 ghost use Rattle.model.specs.declared.refusal.ModelRefusal.TheVariants.{Range};
 ghost use Rattle.model.specs.Calls.{lay_simplex, laid_simplex, mark_simplex, marked_simplex};
 
@@ -14,11 +15,11 @@ use simplex::simplex::Simplex;
 use store::meaning::Store;
 
 // Removes every simplex.
-pub(crate) fn remove_all<S: Store>(store: &mut S)
+pub fn remove_all<S: Store>(store: &mut S)
     ensures { S.Store.contents store.new ≡ holding (S.Store.contents store.old) [] }
 {
     // The store changes on the way, so it is asked anew for its first simplex each time.
-    while let Some(s) = store.after(None) {
+    while let Some(s) = (*store).after(None) {
         let _ = store.put(s, 0);
     }
 }
@@ -35,16 +36,16 @@ pub(crate) fn in_range<S: Store>(store: &S, simplex: &Simplex) -> Result<(), Mod
 }
 
 // Adds a simplex and its absent faces, and answers how many it added.
-pub(crate) fn lay_simplex<S: Store>(store: &mut S, simplex: &Simplex) -> Result<usize, ModelRefusal>
+pub fn lay_simplex<S: Store>(store: &mut S, simplex: &Simplex) -> Result<usize, ModelRefusal>
     ensures value { result ≡ lay_simplex (S.Store.contents store.old) (vertices simplex.now) }
     ensures after { S.Store.contents store.new ≡ laid_simplex (S.Store.contents store.old) (vertices simplex.now) }
 {
     in_range(store, simplex)?;
-    if store.look(simplex) != 0 {
+    if (*store).look(simplex) != 0 {
         return Err(ModelRefusal::Held);
     }
     let absent = absent_faces(store, simplex);
-    if store.held() + absent > store.limit() {
+    if (*store).held() + absent > (*store).limit() {
         return Err(ModelRefusal::Full);
     }
     lay_faces(store, simplex);
@@ -52,18 +53,18 @@ pub(crate) fn lay_simplex<S: Store>(store: &mut S, simplex: &Simplex) -> Result<
 }
 
 // Marks a simplex and its faces with a part, and answers how many masks changed.
-// That the model is legal is a clause and not part of a type: a bare store need not be legal between two puts.
-pub(crate) fn mark_simplex<S: Store>(
+// A bare store need not be legal; where its model is, the faces are held, so that no put finds it full.
+pub fn mark_simplex<S: Store>(
     store: &mut S,
     part: Part,
     simplex: &Simplex,
 ) -> Result<usize, ModelRefusal>
-    requires { Legal (S.Store.contents store.old).model }
     ensures value { result ≡ mark_simplex (S.Store.contents store.old) part.number (vertices simplex.now) }
-    ensures after { S.Store.contents store.new ≡ marked_simplex (S.Store.contents store.old) part.number (vertices simplex.now) }
+    ensures refused { (e : ModelRefusal) → result ≡ Err e → S.Store.contents store.new ≡ S.Store.contents store.old }
+    ensures after { Legal (S.Store.contents store.old).model → S.Store.contents store.new ≡ marked_simplex (S.Store.contents store.old) part.number (vertices simplex.now) }
 {
     in_range(store, simplex)?;
-    if store.look(simplex) == 0 {
+    if (*store).look(simplex) == 0 {
         return Err(ModelRefusal::Absent);
     }
     let unmarked = unmarked_faces(store, part, simplex);

@@ -33,21 +33,20 @@ pub(crate) fn lay_faces<S: Store>(store: &mut S, s: &Simplex)
     ensures { S.Store.contents store.new ≡ holding (S.Store.contents store.old) (lay (S.Store.contents store.old).model (vertices s.now)) }
 {
     for face in s.faces() {
-        if store.look(&face) == 0 {
+        if (*store).look(&face) == 0 {
             let _ = store.put(face, 1);
         }
     }
 }
 
-// Sets the part's bit on every face of a held simplex.
+// Sets the part's bit on every face of a simplex. Where all are held, each put finds room.
 // Not one loop with `lay_faces`, which asks for something else and passes the held faces by.
 pub(crate) fn mark_faces<S: Store>(store: &mut S, part: Part, s: &Simplex)
     requires range { below (S.Store.contents store.old).range (vertices s.now) ≡ true }
-    requires held { (q : List ℕ) → Face q (vertices s.now) → 0 < mask (S.Store.contents store.old).model q }
-    ensures { S.Store.contents store.new ≡ holding (S.Store.contents store.old) (mark part.number (S.Store.contents store.old).model (vertices s.now)) }
+    ensures { ((q : List ℕ) → Face q (vertices s.now) → 0 < mask (S.Store.contents store.old).model q) → S.Store.contents store.new ≡ holding (S.Store.contents store.old) (mark part.number (S.Store.contents store.old).model (vertices s.now)) }
 {
     for face in s.faces() {
-        let mask = store.look(&face) | part.mask();
+        let mask = (*store).look(&face) | part.mask();
         let _ = store.put(face, mask);
     }
 }

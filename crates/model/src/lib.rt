@@ -2,7 +2,7 @@
 #![tactic(auto)]
 
 mod bases;
-mod edits;
+pub mod edits;
 mod faces;
 mod merges;
 mod notes;

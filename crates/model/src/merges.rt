@@ -31,7 +31,7 @@ impl Merge {
     {
         // The store changes on the way, so it is asked anew for each next simplex.
         let mut at = None;
-        while let Some(t) = store.after(at) {
+        while let Some(t) = (*store).after(at) {
             if t.has(self.v) {
                 self.merge_one(store, &t);
             }
@@ -46,11 +46,11 @@ impl Merge {
         requires taken { has self.v (vertices t.now) ≡ true }
         ensures { S.Store.contents store.new ≡ holding (S.Store.contents store.old) (merge_one self.u self.v (S.Store.contents store.old).model (vertices t.now)) }
     {
-        let mask = store.look(t);
+        let mask = (*store).look(t);
         let _ = store.put(*t, 0);
         if !t.has(self.u) {
             let moved = self.replaced(t);
-            let joined = store.look(&moved) | mask;
+            let joined = (*store).look(&moved) | mask;
             let _ = store.put(moved, joined);
         }
     }

@@ -17,19 +17,19 @@ mod tests {
         }
     }
 
-    fn lay<S: Store>(draft: &mut Draft<'_, S>, list: &[u16]) -> Result<usize, u8> {
+    fn lay<S: Store>(draft: &mut Draft<S>, list: &[u16]) -> Result<usize, u8> {
         draft.lay(list).map_err(u8::from)
     }
 
-    fn mark<S: Store>(draft: &mut Draft<'_, S>, part: u16, list: &[u16]) -> Result<usize, u8> {
+    fn mark<S: Store>(draft: &mut Draft<S>, part: u16, list: &[u16]) -> Result<usize, u8> {
         draft.mark(part, list).map_err(u8::from)
     }
 
-    fn look<S: Store>(working: &Working<'_, S>, list: &[u16]) -> Result<u8, u8> {
+    fn look<S: Store>(working: &Working<S>, list: &[u16]) -> Result<u8, u8> {
         working.look(list).map_err(u8::from)
     }
 
-    fn euler<S: Store>(working: &Working<'_, S>, part: u16) -> Result<i32, u8> {
+    fn euler<S: Store>(working: &Working<S>, part: u16) -> Result<i32, u8> {
         working.euler(part).map_err(u8::from)
     }
 

@@ -18,7 +18,7 @@ const RECORDS: usize = 4000;
 
 // The answer to one line.
 fn answer_to<S: Store>(working: &Working<S>, line: &[u8]) -> Answer
-    ensures { result ≡ answer_of working.now line.now }
+    ensures { result ≡ answer_of (S.Store.contents working.now.store) line.now }
 {
     match Command::try_from(line)? {
         Command::Euler(part) => Ok(Reply::Euler(working.euler(part)?)),
@@ -31,7 +31,7 @@ fn push_replies<S: Store>(
     working: &Working<S>,
     script: &[u8],
 ) -> Result<(), AllocError>
-    ensures { OnOk result (string_bytes text.new ≡ string_bytes text.old ++ replies (answer_of working.now) (lines script.now)) }
+    ensures { OnOk result (string_bytes text.new ≡ string_bytes text.old ++ replies (answer_of (S.Store.contents working.now.store)) (lines script.now)) }
 {
     for line in Lines::of(script) {
         push_line(text, &answer_to(working, line))?;
@@ -40,13 +40,13 @@ fn push_replies<S: Store>(
 }
 
 // All that is printed for a file and a script, over an empty draft of any store.
-pub fn transcript_over<S: Store>(
+pub fn transcript_over<S: Store + Drop>(
     heap: Global,
     mut draft: Draft<S>,
     file: &[u8],
     script: &[u8],
 ) -> Result<String, AllocError>
-    ensures { IfOk result (λ s. string_bytes s ≡ transcript_from draft.entry file.now script.now) }
+    ensures { IfOk result (λ s. string_bytes s ≡ transcript_from (S.Store.contents draft.store) file.now script.now) }
 {
     let mut text = String::new(heap);
     match load(&mut draft, file) {

@@ -33,13 +33,16 @@ module _ (M : Model) (sorted : Sorted M) (q s : List ℕ) (found : Some s ≡ ne
       ∙ ap (λ L. w r.key (mask M r.key) + total w L) (sym (later_step colex colex_lawful M q r p.1 sorted p.2))
       ∙ ap (λ t. w t (mask M t) + total w (later colex t M)) p.3
 
+  -- the walk to the next simplex, and what is later than that
+  pub next_first : (r : Record (List ℕ) ℕ) × (later colex q M ≡ r ∷ later colex s M) × (r.key ≡ s)
+  next_first =
+      let p = split (later colex q M) s found in
+      let r = p.0 in
+      (r, p.2 ∙ ap (λ L. r ∷ L) (sym (later_step colex colex_lawful M q r p.1 sorted p.2) ∙ ap (λ k. later colex k M) p.3), p.3)
+
   -- what is left begins with what is found
   pub walk_on : keys (later colex q M) ≡ s ∷ keys (later colex s M)
-  walk_on =
-      let p = split (later colex q M) s found in
-      ap keys p.2
-      ∙ ap (λ L. p.0.key ∷ keys L) (sym (later_step colex colex_lawful M q p.0 p.1 sorted p.2))
-      ∙ ap (λ t. t ∷ keys (later colex t M)) p.3
+  walk_on = ap keys next_first.1 ∙ ap (λ k. k ∷ keys (later colex s M)) next_first.2
 
   pub walk_shorter : length (later colex s M) < length (later colex q M)
   walk_shorter =

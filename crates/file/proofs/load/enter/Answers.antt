@@ -13,10 +13,10 @@ pub returns-in-Marked-clause-value : goal.returns-in-Marked-clause-value
 returns-in-Marked-clause-value g c =
     let is = ap content c.in-Marked.is in
     let numbers = handed_on _ _ _ _ _ c.as_slice-in-Marked.ensures.value c.vertices-numbers.ensures c.bytes.ensures is in
-    c.mark.ensures.value ∙ (λ d. mark_answer c.args.draft.now (c.from.ensures d) (numbers d)) ∙ ap (entry_answer c.args.draft.now) (sym is)
+    c.mark.ensures.value ∙ (λ d. mark_answer (g.S.Store.contents c.args.draft.now.store) (c.from.ensures d) (numbers d)) ∙ ap (entry_answer (g.S.Store.contents c.args.draft.now.store)) (sym is)
 
 pub returns-in-Marked-clause-after : goal.returns-in-Marked-clause-after
 returns-in-Marked-clause-after g c =
     let is = ap content c.in-Marked.is in
     let numbers = handed_on _ _ _ _ _ c.as_slice-in-Marked.ensures.value c.vertices-numbers.ensures c.bytes.ensures is in
-    c.mark.ensures.after ∙ (λ d. marked c.args.draft.now (c.from.ensures d) (numbers d)) ∙ ap (entry_next c.args.draft.now) (sym is)
+    c.mark.ensures.after ∙ (λ d. marked (g.S.Store.contents c.args.draft.now.store) (c.from.ensures d) (numbers d)) ∙ ap (entry_next (g.S.Store.contents c.args.draft.now.store)) (sym is)

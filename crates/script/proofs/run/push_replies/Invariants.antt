@@ -7,4 +7,4 @@ use Rattle.script.proofs.run.push_replies.Given as goal
 -- what was written, and what is still to be written, give all replies after the text at the start
 abbrev pub invariant-loop-line : goal.invariant-loop-line
 invariant-loop-line g l =
-    string_bytes l.text ++ replies (answer_of l.working) l.line-iterator ≡ string_bytes l.initial.text ++ replies (answer_of l.working) (lines l.script)
+    string_bytes l.text ++ replies (answer_of (g.S.Store.contents l.working.store)) l.line-iterator ≡ string_bytes l.initial.text ++ replies (answer_of (g.S.Store.contents l.working.store)) (lines l.script)
