@@ -3,6 +3,8 @@
 
 #[cfg(test)]
 mod tests {
+    use model::edits::{lay_simplex, mark_simplex, remove_all};
+    use model::part::Part;
     use model::stages::{Draft, Working};
     use order::record::Record;
     use simplex::simplex::Simplex;
@@ -128,6 +130,36 @@ mod tests {
         hollow_tetrahedron(&rt, &mut store);
         five_tetrahedra(&rt, &mut store);
         marked_triangles(&rt, &mut store);
+    }
+
+    // A draft may own its store, which is at hand in both stages.
+    #[test]
+    fn a_store_of_its_own(rt: HostRuntime) {
+        let mut records = [record(); 7];
+        let mut draft = Draft::open(TableStore::open(&mut records));
+        assert_eq!(rt; lay(&mut draft, &[0, 1, 2]), Ok(7));
+        assert_eq!(rt; draft.store().limit(), 7);
+        let working = draft.close();
+        assert_eq!(rt; euler(&working, 0), Ok(1));
+        assert_eq!(rt; working.store().look(&Simplex::point(2)), 1);
+    }
+
+    // The same changes of a bare store.
+    #[test]
+    fn without_a_draft(rt: HostRuntime) {
+        let mut records = [record(); 3];
+        let mut store = TableStore::open(&mut records);
+        let point = Simplex::point(5);
+        let added = lay_simplex(&mut store, &point).map_err(u8::from);
+        assert_eq!(rt; added, Ok(1));
+        let changed = match Part::try_from(3) {
+            Ok(part) => mark_simplex(&mut store, part, &point).map_err(u8::from),
+            Err(_) => Err(1),
+        };
+        assert_eq!(rt; changed, Ok(1));
+        assert_eq!(rt; store.look(&point), 9);
+        remove_all(&mut store);
+        assert_eq!(rt; store.held(), 0);
     }
 
     fn lay_refusals<S: Store>(rt: &impl Abort, store: &mut S) {

@@ -77,7 +77,7 @@ impl<'a> Store for TableStore<'a> {
         if !s.within(RANGE) {
             return Err(StoreRefusal::Range);
         }
-        if self.look(&s) == 0 && self.table.len() == self.limit {
+        if (*self).look(&s) == 0 && self.table.len() == self.limit {
             return Err(StoreRefusal::Full);
         }
         self.table.put(s, mask).map_err(|_| StoreRefusal::Full)
