@@ -1,5 +1,5 @@
 // The faces of a simplex, by number and one after another.
-ghost use Rattle.std.specs.Prelude.{◌≡◌, ◌<◌, [], ◌∷◌};
+ghost use Rattle.std.specs.Prelude.{◌≡◌, ◌<◌, ◌≤◌, [], ◌∷◌, length};
 ghost use Rattle.std.specs.List.{slice_get};
 ghost use Rattle.std.specs.Iterator.{YieldsFirstBy, item_count};
 ghost use Rattle.complex.specs.Simplex.{faces};
@@ -9,6 +9,9 @@ ghost use Rattle.simplex.specs.FacesLeft.{faces_left};
 use crate::shape::Shape;
 use crate::simplex::Simplex;
 use crate::simplex::makes::simplex;
+
+// No simplex has more faces, itself counted.
+pub const MOST_FACES: usize = 15;
 
 impl Simplex {
     // The face at place i, from 0, in the order of the definition; the last is the simplex itself.
@@ -25,7 +28,8 @@ impl Simplex {
 
     // All faces in that order.
     pub fn faces(&self) -> Faces
-        ensures { faces_left result ≡ faces (vertices self.now) }
+        ensures all { faces_left result ≡ faces (vertices self.now) }
+        ensures few { length (faces (vertices self.now)) ≤ MOST_FACES }
     {
         Faces {
             simplex: *self,
