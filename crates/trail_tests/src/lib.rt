@@ -44,6 +44,14 @@ mod tests {
         }
         assert_eq!(rt; trail.used(), 32760);
         assert_eq!(rt; add(&mut trail, 0, 2731), Err(TrailFull));
+        assert_eq!(rt;
+            trail.commit(Head {
+                u: 0,
+                v: 2731,
+                s: 2
+            }),
+            Err(TrailFull)
+        );
         assert_eq!(rt; trail.commit(bare(0, 2731)), Ok(8));
         assert_eq!(rt; trail.used(), 32768);
     }
