@@ -4,7 +4,7 @@
 #[cfg(test)]
 mod tests {
     use file::reader::Reader;
-    use file::vertices::vertices;
+    use file::vertices::{Vertices, vertices};
 
     // What comes first: the flaw's number, or 0 at an entry, then section, entry and place.
     fn first(file: &[u8]) -> Option<(u8, u8, u16, usize)> {
@@ -62,5 +62,13 @@ mod tests {
     fn a_point_is_found_at_its_place(rt: HostRuntime) {
         assert_eq!(rt; first(&[0, 0, 0, 0, 0, 0, 0, 1, 16, 5]), Some((0, 4, 0, 8)));
         assert_eq!(rt; vertices(&[16, 5]).as_slice(), [4101].as_slice());
+    }
+
+    #[test]
+    fn vertices_are_copied_and_both_are_read(rt: HostRuntime) {
+        let read = Vertices::of(&[16, 5, 0, 1, 9]);
+        let copied = read;
+        assert_eq!(rt; read.as_slice(), [4101, 1].as_slice());
+        assert_eq!(rt; copied.as_slice(), [4101, 1].as_slice());
     }
 }
