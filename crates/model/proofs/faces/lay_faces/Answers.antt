@@ -9,7 +9,7 @@ pub loop-face-init : goal.loop-face-init
 loop-face-init g c =
     let before = g.S.Store.contents c.args.store.now in
     let s = c.args.s.now in
-    let all : faces_left c.into_iter-face-iterator.result ≡ faces (vertices s) = ap faces_left c.into_iter-face-iterator.ensures.into_iter_gives ∙ c.faces-face-items.ensures in
+    let all : faces_left c.into_iter-face-iterator.result ≡ faces (vertices s) = ap faces_left c.into_iter-face-iterator.ensures.into_iter_gives ∙ c.faces-face-items.ensures.all in
     subst (Laying (vertices s) before before) (sym all) (laying_first (vertices s) before s.rising c.requires.room)
 
 pub loop-face-preserved-then-look-eq0 : goal.loop-face-preserved-then-look-eq0

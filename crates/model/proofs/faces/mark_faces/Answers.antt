@@ -11,7 +11,7 @@ loop-face-init g c held =
     let before = g.S.Store.contents c.args.store.now in
     let s = c.args.s.now in
     let p = c.args.part.number in
-    let all : faces_left c.into_iter-face-iterator.result ≡ faces (vertices s) = ap faces_left c.into_iter-face-iterator.ensures.into_iter_gives ∙ c.faces-face-items.ensures in
+    let all : faces_left c.into_iter-face-iterator.result ≡ faces (vertices s) = ap faces_left c.into_iter-face-iterator.ensures.into_iter_gives ∙ c.faces-face-items.ensures.all in
     subst (Marking p (vertices s) before before) (sym all) (marking_first p (vertices s) before s.rising held)
 
 pub loop-face-preserved : goal.loop-face-preserved
