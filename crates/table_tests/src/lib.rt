@@ -42,6 +42,7 @@ mod tests {
         assert_eq!(rt; table.put(2, 21), Ok(()));
         assert_eq!(rt; table.look(&2), Some(21));
         assert_eq!(rt; table.len, 2);
+        assert_eq!(rt; table.len(), 2);
         table.remove(&1);
         table.remove(&4);
         assert_eq!(rt; table.look(&1), None);
