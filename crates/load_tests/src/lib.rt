@@ -1,5 +1,9 @@
-// Loads into drafts over the table store: what is held afterwards, and every refusal with its site.
+// Loads into drafts over the table store: what is held afterwards, and every refusal with its site. A draft over a lent store is
+// passed on to the run of a script.
 #![tactic(auto)]
+
+ghost use Rattle.std.specs.Prelude.{◌≡◌, IfOk, string_bytes};
+ghost use Rattle.script.specs.Transcript.{transcript_from};
 
 #[cfg(test)]
 mod tests {
@@ -7,8 +11,11 @@ mod tests {
     use file::refusal::FileRefusal;
     use model::stages::Draft;
     use order::record::Record;
+    use script::run::transcript_over;
     use simplex::simplex::Simplex;
+    use std::alloc::{AllocError, Global};
     use std::process::Abort;
+    use store::lent::Lent;
     use store::meaning::Store;
     use table_store::records::TableStore;
 
@@ -80,5 +87,31 @@ mod tests {
         let mut draft = Draft::open(&mut store);
         assert_eq!(rt; told(load(&mut draft, &MARKED)), [22, 2, 0, 4]);
         assert_eq!(rt; draft.held(), 0);
+    }
+
+    // A draft that was passed on by value is passed on again, with all that is known of it.
+    fn passed_on<'c, S: Store>(
+        heap: Global,
+        draft: Draft<Lent<'c, S>>,
+        file: &[u8],
+        script: &[u8],
+    ) -> Result<String, AllocError>
+        ensures { IfOk result (λ s. string_bytes s ≡ transcript_from (S.Store.contents draft.entry.store) file.now script.now) }
+    {
+        transcript_over(heap, draft, file, script)
+    }
+
+    #[test]
+    fn over_a_loan(rt: HostRuntime) {
+        let mut records = [Record {
+            key: Simplex::point(0),
+            value: 0,
+        }; 7];
+        let mut store = TableStore::open(&mut records);
+        let draft = Draft::open(Lent::of(&mut store));
+        match passed_on(rt.alloc(), draft, &MARKED, b"e 0\ne 1\ne 8\n") {
+            Ok(text) => assert_eq!(rt; text.as_str(), "loaded 7\nok 1\nok 1\nno 1\n"),
+            Err(_) => assert!(rt; false),
+        }
     }
 }

@@ -9,6 +9,7 @@ mod tests {
     use order::record::Record;
     use simplex::simplex::Simplex;
     use std::process::Abort;
+    use store::lent::Lent;
     use store::meaning::Store;
     use table_store::records::TableStore;
 
@@ -142,6 +143,26 @@ mod tests {
         let working = draft.close();
         assert_eq!(rt; euler(&working, 0), Ok(1));
         assert_eq!(rt; working.store().look(&Simplex::point(2)), 1);
+    }
+
+    // What stands on a `Lent` is passed on by value in both stages.
+    fn closed_here<'c, S: Store>(draft: Draft<Lent<'c, S>>) -> usize {
+        let working = draft.close();
+        held_here(working)
+    }
+
+    fn held_here<'c, S: Store>(working: Working<Lent<'c, S>>) -> usize {
+        working.held()
+    }
+
+    #[test]
+    fn over_a_loan(rt: HostRuntime) {
+        let mut records = [record(); 7];
+        let mut store = TableStore::open(&mut records);
+        let mut draft = Draft::open(Lent::of(&mut store));
+        assert_eq!(rt; lay(&mut draft, &[0, 1, 2]), Ok(7));
+        assert_eq!(rt; draft.store().range(), 4096);
+        assert_eq!(rt; closed_here(draft), 7);
     }
 
     // The same changes of a bare store.
