@@ -26,7 +26,7 @@ pub(crate) fn unmarked_faces<S: Store>(store: &S, part: Part, s: &Simplex) -> us
 }
 
 // Puts every absent face, for which there is room.
-// Not one loop with `mark_faces`: laying asks for room and puts the absent faces, marking asks that all are held and puts every one.
+// Not one loop with `mark_faces`: laying asks for room and puts the absent faces, marking does not and puts every one.
 pub(crate) fn lay_faces<S: Store>(store: &mut S, s: &Simplex)
     requires range { below (S.Store.contents store.old).range (vertices s.now) ≡ true }
     requires room { length (S.Store.contents store.old).model + absent (S.Store.contents store.old).model (faces (vertices s.now)) ≤ (S.Store.contents store.old).limit }
